@@ -1,0 +1,12 @@
+-- What contracts see of a list that is being built.
+use Rattle.std.specs.Prelude.{ℕ, List, refl}
+use Rattle.std.specs.Coded.{Coded, code_by, coded×, coded_ℕ, coded_list}
+
+-- the items of a list, and how many places are reserved behind them
+pub record Listed (T : Type 0) : Type 0 where
+  pub items : List T
+  pub spare : ℕ
+
+-- how the prover tells two such lists apart: by their items and their reserved places
+abbrev pub listed_code : {T : Type 0} → Coded T → Coded (Listed T)
+listed_code {T} c = code_by (List T × ℕ) (coded× (coded_list c) coded_ℕ) (λ l. (l.items, l.spare)) (λ p. record { items = p.0; spare = p.1 }) (λ _. refl)
