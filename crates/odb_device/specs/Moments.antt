@@ -1,0 +1,45 @@
+-- What holds at every moment of a call, and of calls one after another.
+use Rattle.std.specs.Prelude.{◌≡◌, ◌≢◌, ℕ, ◌≤◌, List, Option, is_some}
+use Rattle.odb_device.specs.World.{File, Moment, World, present, file_of}
+use Rattle.odb_device.specs.Images.{IsImageOf}
+
+-- from old to new only this file and counts of faults change, and nothing is said or taken
+pub record ChangesOnly (file : ℕ) (old new : World) : Type 0 where
+  pub later : old.time ≤ new.time
+  pub past : (k : ℕ) → k ≤ old.time → new.moment k ≡ old.moment k
+  pub others : (k g : ℕ) → old.time ≤ k → k ≤ new.time → g ≢ file → (new.moment k).files g ≡ file_of g old
+  pub told : (k : ℕ) → old.time ≤ k → k ≤ new.time → is_some ((new.moment k).files file) ≡ is_some (file_of file old)
+  pub said : (k : ℕ) → old.time ≤ k → k ≤ new.time → (new.moment k).said ≡ (present old).said
+  pub talk : new.talk ≡ old.talk
+  pub faults : (g : ℕ) → old.faults g ≤ new.faults g
+
+-- at each moment from old to new the file has P
+abbrev pub Throughout : ℕ → (Option File → Type 0) → World → World → Type 0
+Throughout file P old new = (k : ℕ) → old.time ≤ k → k ≤ new.time → P ((new.moment k).files file)
+
+-- from old to new only this file changes, and at each moment it has P
+pub record Runs (file : ℕ) (P : Option File → Type 0) (old new : World) : Type 0 where
+  pub only : ChangesOnly file old new
+  pub each : Throughout file P old new
+
+-- at each moment from old to new Q holds
+abbrev pub EachMoment : (Moment → Type 0) → World → World → Type 0
+EachMoment Q old new = (k : ℕ) → old.time ≤ k → k ≤ new.time → Q (new.moment k)
+
+-- the store tells the same files, the past stays, counts don't fall, and at each moment from old to new Q holds
+pub record Passes (Q : Moment → Type 0) (old new : World) : Type 0 where
+  pub later : old.time ≤ new.time
+  pub past : (k : ℕ) → k ≤ old.time → new.moment k ≡ old.moment k
+  pub told : (g : ℕ) → is_some (file_of g new) ≡ is_some (file_of g old)
+  pub faults : (g : ℕ) → old.faults g ≤ new.faults g
+  pub take_faults : old.talk.take_faults ≤ new.talk.take_faults
+  pub say_faults : old.talk.say_faults ≤ new.talk.say_faults
+  pub each : EachMoment Q old new
+
+-- the images of a moment: one for each file, independent of one another
+abbrev pub AreImages : Moment → (ℕ → List ℕ) → Type 0
+AreImages m images = (file : ℕ) → IsImageOf (m.files file) (images file)
+
+-- with the bytes said so far and any images, Q
+abbrev pub EachCrash : (Option (List ℕ) → (ℕ → List ℕ) → Type 0) → Moment → Type 0
+EachCrash Q m = (images : ℕ → List ℕ) → AreImages m images → Q m.said images

@@ -1,0 +1,44 @@
+-- What a host shows to proofs: its files as they are and as a crash may leave them, at each moment so far.
+use Rattle.std.specs.Prelude.{ℕ, Bool, List, [], Option, IsSome}
+
+-- a file: the bytes that a read gives, those that the last sync left, and the ranges (first byte, length) written since, newest first
+pub record File : Type 0 where
+  pub bytes : List ℕ
+  pub synced : List ℕ
+  pub ranges : List (ℕ × ℕ)
+
+-- a file that was never written: it has no bytes
+abbrev pub empty_file : File
+empty_file = record { bytes = []; synced = []; ranges = [] }
+
+-- the files that are told, each as it was at one moment, and the bytes said by then, where they are told
+pub record Moment : Type 0 where
+  pub files : ℕ → Option File
+  pub said : Option (List ℕ)
+
+-- the console: the bytes taken, where they are told, whether 0 was answered to `take`, and the counts of faults
+pub record Talk : Type 0 where
+  pub taken : Option (List ℕ)
+  pub has_ended : Bool
+  pub take_faults : ℕ
+  pub say_faults : ℕ
+
+-- the moments from 0 to the present one, and the counts of faults of each file
+pub record World : Type 0 where
+  pub time : ℕ
+  pub moment : ℕ → Moment
+  pub faults : ℕ → ℕ
+  pub talk : Talk
+
+-- The present is the moment `time`. So what is said of each moment from `time` on counts now too,
+-- and nothing else does before a call comes: both hold by this definition, and no trait has a law of it.
+abbrev pub present : World → Moment
+present w = w.moment w.time
+
+-- the file as it is now, where it is told
+abbrev pub file_of : ℕ → World → Option File
+file_of file w = (present w).files file
+
+-- the store tells the file
+abbrev pub IsTold : ℕ → World → Type 0
+IsTold file w = IsSome (file_of file w)
