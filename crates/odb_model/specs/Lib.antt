@@ -1,0 +1,17 @@
+pub use Rattle.odb_values.specs.Listed
+pub use Rattle.odb_values.specs.Text
+pub use Rattle.odb_values.specs.Value
+pub use Rattle.odb_values.specs.Key
+pub use Rattle.odb_values.specs.Range
+pub mod State
+pub mod Table
+pub mod Truth
+pub mod Meaning
+pub mod Reads
+pub mod Transaction
+pub mod Machine
+pub mod Serial
+pub mod Print
+pub mod Script
+pub mod Play
+pub mod Status

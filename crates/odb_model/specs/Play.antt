@@ -1,0 +1,103 @@
+-- A script played: each line with its answer, and what is said.
+use Rattle.std.specs.Prelude.{◌≡◌, ◌⊎◌, ◌≢◌, ℕ, ◌+◌, ◌-◌, ◌^◌, ◌≤◌, Bool, true, false, List, [], ◌∷◌, ◌++◌, flat_map, length, take, MatchOption}
+use Rattle.odb_model.specs.declared.event.Event.TheVariants.{Session as OfSession}
+use Rattle.odb_model.specs.declared.reply.Head.{Head}
+use Rattle.odb_model.specs.declared.reply.Head.TheVariants.{Session}
+use Rattle.odb_model.specs.declared.reply.Reply.{Reply}
+use Rattle.odb_model.specs.declared.reply.Reply.TheVariants.{Committed, Ended}
+use Rattle.odb_model.specs.declared.statement.Statement.{Statement}
+use Rattle.odb_model.specs.declared.status.Status.{Status}
+use Rattle.odb_model.specs.declared.status.Status.TheVariants.{Done, Usage, ReadFault, WriteFault, InputTooLong, NoMemory}
+use Rattle.odb_model.specs.Machine.{Machine, Step}
+use Rattle.odb_model.specs.Print.{reply_text}
+use Rattle.odb_model.specs.Script.{IsRequest, IsRefused, ended_lines, all_lines}
+use Rattle.odb_model.specs.Serial.{IsSerial}
+
+-- one line answered: whom the reply names, the reply, the files whose counts rose in the step, and the machine after it
+pub record Answer : Type 0 where
+  pub head : Head
+  pub reply : Reply
+  pub risen : ℕ → Bool
+  pub after : Machine
+
+-- the line is refused and the machine stays, or it asks for a step of the machine
+abbrev pub IsAnswer : List ℕ → Machine → Answer → Type 0
+IsAnswer line m answer =
+    (IsRefused line answer.head answer.reply × (answer.after ≡ m))
+    ⊎ ((s : ℕ) × (st : Statement) × (answer.head ≡ Session s) × IsRequest line s st × Step m (OfSession s st) answer.risen answer.reply answer.after)
+
+-- the lines answered one after another
+abbrev pub IsRun : Machine → List (List ℕ) → List Answer → Type 0
+IsRun m [] [] = Unit {0}
+IsRun m (line ∷ lines) (answer ∷ answers) = IsAnswer line m answer × IsRun answer.after lines answers
+IsRun m [] (answer ∷ answers) = ⊥
+IsRun m (line ∷ lines) [] = ⊥
+
+-- a transaction that the reply commits is serial at its place: at k - 1 for COMMITTED k, at p for ENDED p
+abbrev pub CommitsSerially : Machine → Head → Reply → Machine → Type 0
+CommitsSerially m (Session s) (Committed k) after = MatchOption (m.sessions s) (Unit {0}) (λ t. IsSerial t (k - 1) after.history)
+CommitsSerially m (Session s) (Ended p) after = MatchOption (m.sessions s) (Unit {0}) (λ t. IsSerial t p after.history)
+CommitsSerially m head reply after = Unit {0}
+
+abbrev pub AllSerial : Machine → List Answer → Type 0
+AllSerial m [] = Unit {0}
+AllSerial m (answer ∷ answers) = CommitsSerially m answer.head answer.reply answer.after × AllSerial answer.after answers
+
+abbrev pub text_of_answer : Answer → List ℕ
+text_of_answer answer = reply_text answer.head answer.reply
+
+-- the texts of the replies
+abbrev pub said_by : List Answer → List ℕ
+said_by answers = flat_map text_of_answer answers
+
+-- a file's count rises in a step only where it rose in the whole call, as `rose` tells of each file
+abbrev pub RiseOnly : (ℕ → Type 0) → List Answer → Type 0
+RiseOnly rose [] = Unit {0}
+RiseOnly rose (answer ∷ answers) = ((file : ℕ) → answer.risen file ≡ true → rose file) × RiseOnly rose answers
+
+-- these are the answers to these lines from a machine on, and each transaction that they commit is serial
+pub record Plays (rose : ℕ → Type 0) (m : Machine) (lines : List (List ℕ)) (answers : List Answer) : Type 0 where
+  pub run : IsRun m lines answers
+  pub serial : AllSerial m answers
+  pub risen : RiseOnly rose answers
+
+-- all of the lines are answered, and just the texts of the answers are said
+abbrev pub SaysAll : (ℕ → Type 0) → Machine → List (List ℕ) → List Answer → List ℕ → Type 0
+SaysAll rose m lines answers output = Plays rose m lines answers × (output ≡ said_by answers)
+
+-- the first of the lines are answered, and just the texts of the answers are said, but for the last one's perhaps
+abbrev pub SaysSome : (ℕ → Type 0) → Machine → List (List ℕ) → List Answer → List ℕ → Type 0
+SaysSome rose m lines answers output =
+    (n : ℕ) × Plays rose m (take n lines) answers
+    × (told : List Answer) × (untold : List Answer) × (answers ≡ told ++ untold) × (length untold ≤ 1) × (output ≡ said_by told)
+
+-- the first of the lines are answered, and a front of the texts of the answers is said, the last one's not wholly
+abbrev pub SaysPart : (ℕ → Type 0) → Machine → List (List ℕ) → List Answer → List ℕ → Type 0
+SaysPart rose m lines answers output =
+    (n : ℕ) × Plays rose m (take n lines) answers
+    × (told : List Answer) × (last : Answer) × (front : List ℕ) × (rest : List ℕ)
+    × (answers ≡ told ++ last ∷ []) × (output ≡ said_by told ++ front) × (text_of_answer last ≡ front ++ rest) × (rest ≢ [])
+
+-- the lines that are there so far: one that no LF ends only where the input has ended
+abbrev pub lines_so_far : Bool → List ℕ → List (List ℕ)
+lines_so_far true input = all_lines input
+lines_so_far false input = ended_lines input
+
+-- the bytes that a script may have
+abbrev pub most_input : ℕ
+most_input = 2 ^ 32
+
+-- What a script from machine m on answers and says, by the status, of the bytes taken in the call. `begun` and `ended`
+-- tell whether the end of the input was met before the call and at its end
+abbrev pub PlayEnds : (ℕ → Type 0) → Machine → Status → Bool → Bool → List ℕ → List Answer → List ℕ → Type 0
+PlayEnds rose m Done begun ended input answers output =
+    (ended ≡ true) × (length input ≤ most_input) × SaysAll rose m (all_lines input) answers output
+PlayEnds rose m ReadFault begun ended input answers output =
+    (ended ≡ begun) × (length input ≤ most_input) × SaysAll rose m (ended_lines input) answers output
+PlayEnds rose m InputTooLong begun ended input answers output =
+    (length input ≡ most_input + 1) × SaysAll rose m (ended_lines (take most_input input)) answers output
+PlayEnds rose m WriteFault begun ended input answers output =
+    (length input ≤ most_input) × SaysPart rose m (lines_so_far ended input) answers output
+PlayEnds rose m NoMemory begun ended input answers output =
+    (length input ≤ most_input) × SaysSome rose m (lines_so_far ended input) answers output
+PlayEnds rose m Usage begun ended input answers output = ⊥

@@ -1,0 +1,56 @@
+-- The texts of replies.
+use Rattle.std.specs.Prelude.{ℕ, ◌==◌, List, [], ◌∷◌, ◌++◌, length, codes, flat_map, if◌then◌else◌}
+use Rattle.std.specs.Fmt.{decimal, signed_decimal}
+use Rattle.odb_values.specs.declared.value.Value.{Value}
+use Rattle.odb_values.specs.declared.value.Value.TheVariants.{Null, Int, Text}
+use Rattle.odb_model.specs.declared.reply.Head.{Head}
+use Rattle.odb_model.specs.declared.reply.Head.TheVariants.{Session, Control, Unknown}
+use Rattle.odb_model.specs.declared.reply.Reply.{Reply}
+use Rattle.odb_model.specs.declared.reply.Reply.TheVariants.{Okay, Rows, Done, Committed, Ended, Line, NoSession, NotYet, NoTransaction, InTransaction, Duplicate, Conflict, Memory}
+
+abbrev pub head_text : Head → List ℕ
+head_text (Session s) = decimal s
+head_text Control = codes "!"
+head_text Unknown = codes "?"
+
+-- a reply line: whom it names, a space, its words and LF
+abbrev pub line_of : Head → List ℕ → List ℕ
+line_of head words = head_text head ++ codes " " ++ words ++ 10 ∷ []
+
+-- each quote stands twice
+abbrev pub doubled : List ℕ → List ℕ
+doubled text = flat_map (λ b. if b == 39 then 39 ∷ 39 ∷ [] else b ∷ []) text
+
+-- a number in decimals, NULL, or a text in quotes
+abbrev pub value_text : Value → List ℕ
+value_text Null = codes "NULL"
+value_text (Int n) = signed_decimal n
+value_text (Text t) = codes "'" ++ doubled t ++ codes "'"
+
+-- values with a comma between two
+abbrev pub values_text : List Value → List ℕ
+values_text [] = []
+values_text (v ∷ []) = value_text v
+values_text (v ∷ w ∷ values) = value_text v ++ codes "," ++ values_text (w ∷ values)
+
+abbrev pub row_line : Head → List Value → List ℕ
+row_line head values = line_of head (codes "ROW " ++ values_text values)
+
+abbrev pub refused_line : Head → List ℕ → List ℕ
+refused_line head words = line_of head (codes "REFUSED " ++ words)
+
+-- the bytes that answer a line
+abbrev pub reply_text : Head → Reply → List ℕ
+reply_text head Okay = line_of head (codes "OK")
+reply_text head (Rows rows) = flat_map (row_line head) rows ++ line_of head (codes "ROWS " ++ decimal (length rows))
+reply_text head (Done n) = line_of head (codes "DONE " ++ decimal n)
+reply_text head (Committed k) = line_of head (codes "COMMITTED " ++ decimal k)
+reply_text head (Ended p) = line_of head (codes "ENDED " ++ decimal p)
+reply_text head Line = refused_line head (codes "LINE")
+reply_text head NoSession = refused_line head (codes "NOSESSION")
+reply_text head NotYet = refused_line head (codes "NOTYET")
+reply_text head NoTransaction = refused_line head (codes "NOTRANSACTION")
+reply_text head InTransaction = refused_line head (codes "INTRANSACTION")
+reply_text head Duplicate = refused_line head (codes "DUPLICATE")
+reply_text head (Conflict j) = refused_line head (codes "CONFLICT " ++ decimal j)
+reply_text head Memory = refused_line head (codes "MEMORY")

@@ -1,0 +1,32 @@
+// The laws about the definitions, each the contract of a function with nothing to do.
+ghost use Rattle.std.specs.Prelude.{◌≡◌, ℕ, List, [], None};
+ghost use Rattle.odb_model.specs.declared.entry.Entry.{Entry};
+ghost use Rattle.odb_model.specs.declared.statement.Statement.{Statement};
+ghost use Rattle.odb_model.specs.State.{State, Place, AgreeOn, IsHistory, replay};
+ghost use Rattle.odb_model.specs.Meaning.{meaning};
+ghost use Rattle.odb_model.specs.Reads.{reads};
+ghost use Rattle.odb_model.specs.Transaction.{Exchange, statements_of, replies_of, alone, conflict};
+ghost use Rattle.odb_model.specs.Machine.{Machine, first_machine};
+ghost use Rattle.odb_model.specs.Serial.{HasOpenReplies, IsFaithful};
+ghost use Rattle.odb_model.specs.Play.{Answer, IsRun, AllSerial};
+
+/// Two states that agree on every key of the ranges that a statement reads give it the same meaning, and it reads the
+/// same ranges on both.
+pub fn agrees_on_reads()
+    ensures meaning { (st : Statement) (s t : State) (written : List Place) → AgreeOn (reads st s) s t → meaning st s written ≡ meaning st t written }
+    ensures reads { (st : Statement) (s t : State) → AgreeOn (reads st s) s t → reads st s ≡ reads st t }
+{}
+
+/// A transaction that got the replies of its statements at their numbers, and that conflicts with nothing, answers as
+/// if it had run alone at the end of the history.
+pub fn answers_alone()
+    ensures { (h : List Entry) (t : List Exchange) → IsHistory h → HasOpenReplies h [] t → conflict h t ≡ None
+        → (alone (statements_of t) (replay h)).replies ≡ replies_of t }
+{}
+
+/// Whatever lines are answered from a machine on whose open transactions have got their replies, each transaction that
+/// is committed is serial at its place. The first machine of a history is such a machine.
+pub fn runs_serially()
+    ensures first { (h : List Entry) → IsHistory h → IsFaithful (first_machine h) }
+    ensures serial { (m : Machine) (lines : List (List ℕ)) (answers : List Answer) → IsFaithful m → IsRun m lines answers → AllSerial m answers }
+{}

@@ -1,0 +1,65 @@
+use crate::ValueRows;
+use odb_values::Duplicate;
+use std::alloc::{AllocError, Global};
+
+/// Whom a reply line names at its front.
+#[derive(Clone, Copy, Debug, PartialEq, Eq)]
+pub enum Head {
+    /// A session, by the number of its line.
+    Session(u32),
+    /// A control line, told as `!`.
+    Control,
+    /// A line that is neither, told as `?`.
+    Unknown,
+}
+
+/// The answer to one line of a script.
+#[derive(Debug, Drop)]
+pub enum Reply {
+    /// START is done.
+    Okay,
+    /// The rows of a SELECT.
+    Rows(ValueRows),
+    /// How many rows an INSERT put.
+    Done(u64),
+    /// COMMIT is done, and this is the number of its entry.
+    Committed(u64),
+    /// COMMIT is done without a write, after this many entries.
+    Ended(u64),
+    /// The line is no line of a script.
+    Line,
+    /// The session's number is 0 or above 64.
+    NoSession,
+    /// The form of the line is not built yet.
+    NotYet,
+    /// The statement wants a transaction, and the session is in none.
+    NoTransaction,
+    /// START wants no transaction, and the session is in one.
+    InTransaction,
+    /// A row with this key is there already. The statement changed nothing.
+    Duplicate,
+    /// The entry of this number wrote a range that the transaction had read before. The transaction is over.
+    Conflict(u64),
+    /// Memory ran out. Nothing has changed.
+    Memory,
+}
+
+impl Duplicate for Reply {
+    fn copy(&self, alloc: Global) -> Result<Reply, AllocError> {
+        match self {
+            Reply::Okay => Ok(Reply::Okay),
+            Reply::Rows(rows) => Ok(Reply::Rows(rows.copy(alloc)?)),
+            Reply::Done(count) => Ok(Reply::Done(*count)),
+            Reply::Committed(number) => Ok(Reply::Committed(*number)),
+            Reply::Ended(number) => Ok(Reply::Ended(*number)),
+            Reply::Line => Ok(Reply::Line),
+            Reply::NoSession => Ok(Reply::NoSession),
+            Reply::NotYet => Ok(Reply::NotYet),
+            Reply::NoTransaction => Ok(Reply::NoTransaction),
+            Reply::InTransaction => Ok(Reply::InTransaction),
+            Reply::Duplicate => Ok(Reply::Duplicate),
+            Reply::Conflict(number) => Ok(Reply::Conflict(*number)),
+            Reply::Memory => Ok(Reply::Memory),
+        }
+    }
+}
