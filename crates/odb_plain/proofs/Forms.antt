@@ -1,0 +1,102 @@
+-- What the statements of the forms mean.
+use Rattle.std.proofs.Common.{◌≡◌, ℤ, Bool, true, false, ◌&&◌, ◌||◌, ◌==◌, cond, List, [], ◌∷◌, map, filter, codes, is_some, refl, ap, sym, ◌∙◌, Some, None, slice_get, unwrap_or, if◌then◌else◌}
+use Rattle.std.specs.declared.cmp.Ordering.{Ordering}
+use Rattle.std.specs.declared.cmp.Ordering.TheVariants.{Less, Equal, Greater}
+use Rattle.std.specs.Ordering.{is_eq, is_lt, ordering_reverse}
+use Rattle.std.specs.Cmp.{tied_itself}
+use Rattle.std.specs.FinMap.{get, entries}
+use Rattle.odb_values.specs.declared.value.Value.{Value}
+use Rattle.odb_values.specs.declared.value.Value.TheVariants.{Null, Int, Text}
+use Rattle.odb_values.specs.declared.edge.Edge.TheVariants.{Beyond}
+use Rattle.odb_values.specs.declared.range.Range.{Range}
+use Rattle.odb_values.specs.Value.{value_cmp}
+use Rattle.odb_values.specs.ValueOrder.{value_cmp_total}
+use Rattle.odb_values.specs.Range.{passes_low}
+use Rattle.odb_model.specs.declared.write.Write.{Write}
+use Rattle.odb_model.specs.declared.reply.Reply.TheVariants.{Rows, Done, Duplicate}
+use Rattle.odb_model.specs.declared.statement.Compare.TheVariants.{Gt}
+use Rattle.odb_model.specs.State.{Place, State, place_of, is_in, part_in, rows_of}
+use Rattle.odb_model.specs.Table.{column_value, kv, in_columns}
+use Rattle.odb_model.specs.Truth.{truth_if, holds, compared, is_true, keeps}
+use Rattle.odb_model.specs.Meaning.{refused, put_of, put_all, selected, kept_rows}
+use Rattle.odb_model.specs.Reads.{point_of, range_of}
+use Rattle.odb_model.proofs.Parts.{filter-filter, filter-map, filter-same, entries-retain_keys}
+use Rattle.odb_plain.specs.Form.{key_alone, key_above, pair_of}
+use Rattle.odb_plain.proofs.Inside.{get-part_in}
+
+-- a key of one number is in its point
+in_point : (key value : ℤ) → is_in (point_of kv (Int key ∷ [])) (place_of (put_of kv (pair_of key value))) ≡ true
+in_point key value = ap (λ o. ((is_eq o && true) && true) && true) (tied_itself value_cmp_total (Int key))
+
+-- the row of a key is found in its point
+pub is_some-in_point : (key value : ℤ) (s : State)
+    → is_some (get (part_in (point_of kv (Int key ∷ [])) s) (place_of (put_of kv (pair_of key value)))) ≡ is_some (get s (place_of (put_of kv (pair_of key value))))
+is_some-in_point key value s =
+    let place = place_of (put_of kv (pair_of key value)) in
+    ap is_some (get-part_in (point_of kv (Int key ∷ [])) s place ∙ ap (λ b. cond b (get s place) None) (in_point key value))
+
+module _ (key value : ℤ) (s rows : State) (point : Range) (w : Write) (copied : List Value) where
+  -- what the rows of the point tell of a write's place
+  pub is_some-in_rows : rows ≡ part_in point s → point ≡ point_of kv (Int key ∷ []) → w ≡ put_of kv (pair_of key value) → copied ≡ w.key
+      → is_some (get rows (w.table, copied)) ≡ is_some (get s (place_of (put_of kv (pair_of key value))))
+  is_some-in_rows part at is same =
+      ap (λ m. is_some (get m (w.table, copied))) (part ∙ ap (λ r. part_in r s) at)
+      ∙ ap (λ k. is_some (get (part_in (point_of kv (Int key ∷ [])) s) (w.table, k))) same
+      ∙ ap (λ v. is_some (get (part_in (point_of kv (Int key ∷ [])) s) (place_of v))) is
+      ∙ is_some-in_point key value s
+
+pub put_all-one : (s : State) (w : Write) (b : Bool) → is_some (get s (place_of w)) ≡ b → put_all s (w ∷ []) ≡ (if b then refused Duplicate else record { reply = Done 1; writes = w ∷ [] })
+put_all-one s w true e = ap (λ b. if b || false then refused Duplicate else record { reply = Done 1; writes = w ∷ [] }) e
+put_all-one s w false e = ap (λ b. if b || false then refused Duplicate else record { reply = Done 1; writes = w ∷ [] }) e
+
+-- the values of a row of KV, in column order
+abbrev pub laid : Place × List Value → List Value
+laid e = in_columns kv.columns e.0.1 e.1
+
+-- the first value of a key, alone
+abbrev pub first_value : Place × List Value → List Value
+first_value e = unwrap_or (slice_get e.0.1 0) Null ∷ []
+
+below : (o : Ordering) → is_lt (ordering_reverse o) ≡ is_true (truth_if (holds Gt o))
+below Less = refl
+below Equal = refl
+below Greater = refl
+
+-- a key lies beyond a number exactly where its first value is greater
+beyond : (n : ℤ) (key : List Value) → passes_low (Beyond (Int n)) key ≡ is_true (compared Gt (unwrap_or (slice_get key 0) Null) (Int n))
+beyond n [] = refl
+beyond n (Null ∷ key) = refl
+beyond n (Int m ∷ key) = ap is_lt (value_cmp_total.antisymm (Int n) (Int m)) ∙ below (value_cmp (Int m) (Int n))
+beyond n (Text t ∷ key) = refl
+
+with_true : (a b : Bool) → (a && (b && true)) ≡ (a && b)
+with_true true true = refl
+with_true true false = refl
+with_true false b = refl
+
+-- the range of a comparison with a number has the rows at which it is True, and no others
+same_test : (n : ℤ) (e : Place × List Value) → ((5 == e.0.0) && keeps kv.columns (key_above n) (laid e)) ≡ is_in (range_of kv (key_above n)) e.0
+same_test n e = ap (λ b. (5 == e.0.0) && b) (sym (beyond n e.0.1)) ∙ sym (with_true (5 == e.0.0) (passes_low (Beyond (Int n)) e.0.1))
+
+kept : (n : ℤ) (s : State) → kept_rows kv (key_above n) s ≡ map laid (entries (part_in (range_of kv (key_above n)) s))
+kept n s =
+    let keep = keeps kv.columns (key_above n) in
+    let range = range_of kv (key_above n) in
+    filter-map laid keep (rows_of 5 s)
+    ∙ ap (map laid) (ap (filter (λ e. keep (laid e))) (entries-retain_keys s (λ place. 5 == place.0))
+    ∙ filter-filter (λ e. keep (laid e)) (λ e. 5 == e.0.0) (entries s)
+    ∙ filter-same _ (λ e. is_in range e.0) (same_test n) (entries s)
+    ∙ sym (entries-retain_keys s (is_in range)))
+
+-- what SELECT K tells of a row in column order
+abbrev k_of : List Value → List Value
+k_of values = map (column_value kv.columns values) (codes "K" ∷ [])
+
+firsts : (es : List (Place × List Value)) → map first_value es ≡ map k_of (map laid es)
+firsts [] = refl
+firsts (e ∷ es) = ap (λ rows. first_value e ∷ rows) (firsts es)
+
+-- SELECT K tells the first values of the keys in its range
+pub selected-above : (n : ℤ) (s : State)
+    → selected (Some kv) key_alone (key_above n) s ≡ record { reply = Rows (map first_value (entries (part_in (range_of kv (key_above n)) s))); writes = [] }
+selected-above n s = ap (λ rows. record { reply = Rows rows; writes = [] }) (ap (map k_of) (kept n s) ∙ sym (firsts (entries (part_in (range_of kv (key_above n)) s))))

@@ -1,0 +1,12 @@
+use Rattle.std.proofs.Common.{◌≡◌, ◌++◌, [], drop}
+use Rattle.odb_model.specs.State.{replay}
+use Rattle.odb_model.specs.Transaction.{alone_replies, alone_writes}
+use Rattle.odb_plain.proofs.serial.alone.Given as goal
+
+-- the replies and writes so far, and those of the statements that are left
+abbrev pub invariant-loop-statement : goal.invariant-loop-statement
+invariant-loop-statement l = record {
+  replies : l.replies.items ++ alone_replies (replay l.history) l.own.items (drop l.statement-index l.statements) ≡ alone_replies (replay l.history) [] l.statements;
+  writes : alone_writes (replay l.history) l.own.items (drop l.statement-index l.statements) ≡ alone_writes (replay l.history) [] l.statements;
+  none_spare : l.replies.spare ≡ 0;
+}

@@ -1,0 +1,44 @@
+ghost use Rattle.std.specs.Prelude.{◌≡◌, filter, IfOk, OnOk};
+ghost use Rattle.odb_model.specs.State.{place_of, after_writes, replay, is_in, part_in};
+
+use crate::Rows;
+use odb_model::{Entry, Write};
+use odb_values::Range;
+use std::alloc::{AllocError, Global};
+
+/// The rows of a range, where a transaction has made its own writes on a history.
+///
+/// It goes over the whole history once, and takes memory for what was written inside the range. The
+/// error is want of memory.
+pub fn rows_in(
+    alloc: Global,
+    history: &[Entry],
+    own: &[Write],
+    range: &Range,
+) -> Result<Rows, AllocError>
+    ensures { IfOk result (λ rows. rows ≡ part_in range.now (after_writes (replay history.now) own.now)) }
+{
+    let mut rows = Rows::new(alloc);
+    for entry in history {
+        put_inside(alloc, &mut rows, range, entry.writes.as_slice())?;
+    }
+    put_inside(alloc, &mut rows, range, own)?;
+    Ok(rows)
+}
+
+/// Puts those of the writes that are inside the range, the first of them first.
+fn put_inside(
+    alloc: Global,
+    rows: &mut Rows,
+    range: &Range,
+    writes: &[Write],
+) -> Result<(), AllocError>
+    ensures { OnOk result (rows.new ≡ after_writes rows.old (filter (λ write. is_in range.now (place_of write)) writes.now)) }
+{
+    for write in writes {
+        if range.contains(write.table, &write.key) {
+            rows.put(alloc, write)?;
+        }
+    }
+    Ok(())
+}

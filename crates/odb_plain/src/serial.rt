@@ -1,0 +1,58 @@
+//! A transaction that runs alone, as in a serial execution.
+ghost use Rattle.std.specs.Prelude.{◌≡◌, ◌++◌, All, IfOk, OnOk, IsTrue};
+ghost use Rattle.odb_model.specs.State.{replay};
+ghost use Rattle.odb_model.specs.Meaning.{is_built};
+ghost use Rattle.odb_model.specs.Transaction.{alone};
+
+use crate::{execute, net_writes};
+use odb_model::{Entry, Outcome, Reply, Statement, Write, Writes};
+use odb_values::{Frozen, List};
+use std::alloc::{AllocError, Global};
+
+/// What a transaction that runs alone answers and leaves.
+#[derive(Debug, Drop)]
+pub struct Ran {
+    /// The reply to each statement, in their order.
+    pub replies: Frozen<Reply>,
+    /// The net writes, by table and then in key order.
+    pub net: Writes,
+}
+
+/// Runs the statements of a transaction one after another on the rows that a history leaves.
+/// [`crate::is_built`] is the test of the condition on each statement. The history stays as it is.
+///
+/// It costs what [`execute`] costs for each statement, and what [`net_writes`] costs once. The error
+/// is want of memory.
+pub fn alone(alloc: Global, statements: &[Statement], history: &[Entry]) -> Result<Ran, AllocError>
+    requires { All (λ statement. IsTrue (is_built statement)) statements.now }
+    ensures replies { IfOk result (λ ran. ran.replies ≡ (alone statements.now (replay history.now)).replies) }
+    ensures net { IfOk result (λ ran. ran.net ≡ (alone statements.now (replay history.now)).net) }
+{
+    let mut replies = List::new(alloc);
+    let mut own = List::new(alloc);
+    for statement in statements {
+        let Outcome {
+            reply,
+            writes,
+            reads: _,
+        } = execute(alloc, statement, history, own.as_slice())?;
+        replies.reserve()?;
+        replies.push(reply);
+        append(&mut own, writes)?;
+    }
+    Ok(Ran {
+        replies: Frozen::new(replies),
+        net: net_writes(alloc, history, own.as_slice())?,
+    })
+}
+
+/// Puts writes behind those of a list.
+fn append(list: &mut List<Write>, writes: Writes) -> Result<(), AllocError>
+    ensures { OnOk result (list.new ≡ record list.old { items = list.old.items ++ writes }) }
+{
+    for write in writes.into_list().into_vec() {
+        list.reserve()?;
+        list.push(write);
+    }
+    Ok(())
+}
