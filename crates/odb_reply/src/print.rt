@@ -1,0 +1,87 @@
+ghost use Rattle.std.specs.Prelude.{◌≡◌, ◌++◌, length, flat_map, codes, string_bytes, decimal, IfOk, OnOk};
+ghost use Rattle.odb_model.specs.Print.{head_text, line_of, row_line, reply_text};
+
+use crate::ReplyError;
+use crate::values::put_values;
+use odb_model::{Head, Reply};
+use odb_values::{Bytes, Frozen, Values};
+use std::alloc::{AllocError, Global};
+
+/// The bytes of a reply under its head, each line ended by LF.
+///
+/// A SELECT's rows come first, and then how many they are. The reply is only read, and one buffer
+/// grows to the length of the text. The error is want of memory alone.
+pub fn print_reply(alloc: Global, head: Head, reply: &Reply) -> Result<Bytes, ReplyError>
+    ensures { IfOk result (λ bytes. bytes ≡ reply_text head reply.now) }
+{
+    let mut out = String::new(alloc);
+    put_reply(&mut out, head, reply)?;
+    Ok(Frozen::from_vec(out.into_bytes()))
+}
+
+fn put_reply(out: &mut String, head: Head, reply: &Reply) -> Result<(), AllocError>
+    ensures { OnOk result (string_bytes out.new
+        ≡ string_bytes out.old ++ reply_text head reply.now) }
+{
+    match reply {
+        Reply::Okay => put_line(out, head, "OK"),
+        Reply::Rows(rows) => put_rows(out, head, rows.as_slice()),
+        Reply::Done(count) => put_number_line(out, head, "DONE ", *count),
+        Reply::Committed(number) => put_number_line(out, head, "COMMITTED ", *number),
+        Reply::Ended(number) => put_number_line(out, head, "ENDED ", *number),
+        Reply::Line => put_line(out, head, "REFUSED LINE"),
+        Reply::NoSession => put_line(out, head, "REFUSED NOSESSION"),
+        Reply::NotYet => put_line(out, head, "REFUSED NOTYET"),
+        Reply::NoTransaction => put_line(out, head, "REFUSED NOTRANSACTION"),
+        Reply::InTransaction => put_line(out, head, "REFUSED INTRANSACTION"),
+        Reply::Duplicate => put_line(out, head, "REFUSED DUPLICATE"),
+        Reply::Conflict(number) => put_number_line(out, head, "REFUSED CONFLICT ", *number),
+        Reply::Memory => put_line(out, head, "REFUSED MEMORY"),
+    }
+}
+
+/// A line for each row, and then how many rows there are.
+fn put_rows(out: &mut String, head: Head, rows: &[Values]) -> Result<(), AllocError>
+    ensures { OnOk result (string_bytes out.new
+        ≡ string_bytes out.old ++ flat_map (row_line head) rows.now
+        ++ line_of head (codes "ROWS " ++ decimal (length rows.now))) }
+{
+    for row in rows {
+        put_row(out, head, row)?;
+    }
+    put_number_line(out, head, "ROWS ", rows.len() as u64)
+}
+
+fn put_row(out: &mut String, head: Head, row: &Values) -> Result<(), AllocError>
+    ensures { OnOk result (string_bytes out.new ≡ string_bytes out.old ++ row_line head row.now) }
+{
+    put_head(out, head)?;
+    out.push_str(" ROW ")?;
+    put_values(out, row.as_slice())?;
+    out.push_str("\n")
+}
+
+fn put_number_line(out: &mut String, head: Head, words: &str, number: u64) -> Result<(), AllocError>
+    ensures { OnOk result (string_bytes out.new
+        ≡ string_bytes out.old ++ line_of head (words.now ++ decimal number)) }
+{
+    put_head(out, head)?;
+    writeln!(out, " {words}{number}")
+}
+
+fn put_line(out: &mut String, head: Head, words: &str) -> Result<(), AllocError>
+    ensures { OnOk result (string_bytes out.new ≡ string_bytes out.old ++ line_of head words.now) }
+{
+    put_head(out, head)?;
+    writeln!(out, " {words}")
+}
+
+fn put_head(out: &mut String, head: Head) -> Result<(), AllocError>
+    ensures { OnOk result (string_bytes out.new ≡ string_bytes out.old ++ head_text head) }
+{
+    match head {
+        Head::Session(session) => write!(out, "{session}"),
+        Head::Control => out.push_str("!"),
+        Head::Unknown => out.push_str("?"),
+    }
+}

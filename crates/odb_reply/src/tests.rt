@@ -1,0 +1,81 @@
+use super::*;
+use odb_model::{Head, Reply};
+use odb_values::{Frozen, Text, Value};
+use std::alloc::Global;
+use std::test::Fail;
+
+fn text(alloc: Global, text: &str) -> Result<Value, Fail> {
+    Ok(Value::Text(Text::from_str(alloc, text)?.ok_or("no text")?))
+}
+
+/// Two rows: a number below 0, NULL and texts with quotes; and the edges of the numbers.
+fn rows(alloc: Global) -> Result<Reply, Fail> {
+    let first = vec![in alloc;
+        Value::Int(-1),
+        Value::Null,
+        text(alloc, "it's")?,
+        text(alloc, "")?,
+        text(alloc, "'é''")?,
+    ]?;
+    let second = vec![in alloc; Value::Int(i64::MIN), Value::Int(0), Value::Int(i64::MAX)]?;
+    let rows = vec![in alloc; Frozen::from_vec(first), Frozen::from_vec(second)]?;
+    Ok(Reply::Rows(Frozen::from_vec(rows)))
+}
+
+#[test]
+fn replies_are_printed(rt: HostRuntime) -> Result<(), Fail> {
+    let alloc = rt.alloc();
+    let cases = [
+        (
+            Head::Session(3),
+            Reply::Conflict(44),
+            "3 REFUSED CONFLICT 44\n",
+        ),
+        (Head::Session(1), Reply::Okay, "1 OK\n"),
+        (
+            Head::Session(64),
+            rows(alloc)?,
+            "64 ROW -1,NULL,'it''s','','''é'''''\n64 ROW -9223372036854775808,0,9223372036854775807\n64 ROWS 2\n",
+        ),
+        (
+            Head::Session(2),
+            Reply::Rows(Frozen::empty(alloc)),
+            "2 ROWS 0\n",
+        ),
+        (Head::Session(7), Reply::Done(1), "7 DONE 1\n"),
+        (
+            Head::Session(8),
+            Reply::Committed(u64::MAX),
+            "8 COMMITTED 18446744073709551615\n",
+        ),
+        (Head::Session(9), Reply::Ended(0), "9 ENDED 0\n"),
+        (Head::Unknown, Reply::Line, "? REFUSED LINE\n"),
+        (
+            Head::Session(999_999_999),
+            Reply::NoSession,
+            "999999999 REFUSED NOSESSION\n",
+        ),
+        (Head::Control, Reply::NotYet, "! REFUSED NOTYET\n"),
+        (
+            Head::Session(10),
+            Reply::NoTransaction,
+            "10 REFUSED NOTRANSACTION\n",
+        ),
+        (
+            Head::Session(11),
+            Reply::InTransaction,
+            "11 REFUSED INTRANSACTION\n",
+        ),
+        (
+            Head::Session(12),
+            Reply::Duplicate,
+            "12 REFUSED DUPLICATE\n",
+        ),
+        (Head::Session(13), Reply::Memory, "13 REFUSED MEMORY\n"),
+    ];
+    for (head, reply, text) in cases {
+        let bytes = print_reply(alloc, head, &reply)?;
+        assert_eq!(rt; bytes.as_slice(), text.as_bytes(), "at {text:?}");
+    }
+    Ok(())
+}
