@@ -1,0 +1,18 @@
+use Rattle.std.proofs.Common.{◌≡◌, ◌-◌, ◌≤◌, ◌<◌, [], length}
+use Rattle.odb_device.specs.Console.{Talks}
+use Rattle.odb_model.specs.Machine.{Machine}
+use Rattle.odb_model.specs.Play.{most_input}
+use Rattle.odb_system.specs.Held.{StandsFor}
+use Rattle.odb_play.proofs.Playing.{IsPlaying}
+use Rattle.odb_play.proofs.script.play_on.Given as goal
+
+abbrev pub invariant-loop-taken : goal.invariant-loop-taken
+invariant-loop-taken g l = record {
+  few : l.taken ≤ most_input;
+  room : 0 < length l.piece;
+  talks : Talks (g.H.Outside.world l.fn.host) (g.H.Outside.world l.host);
+  playing : (m : Machine) → StandsFor l.fn.player.system m → l.fn.player.kept.items ≡ [] → IsPlaying m l.player.system l.player.kept.items l.taken (g.H.Outside.world l.fn.host) (g.H.Outside.world l.host);
+}
+
+abbrev pub decreases-loop-taken : goal.decreases-loop-taken
+decreases-loop-taken g l = most_input - l.taken

@@ -1,0 +1,200 @@
+// The player answers the lines of a script as their bytes come.
+ghost use Rattle.std.specs.Prelude.{◌≡◌, ℕ, ◌+◌, ◌-◌, List, [], ◌∷◌, ◌++◌, take, length, position, ◌==◌, OnOk, OnErr, Err};
+ghost use Rattle.odb_device.specs.Console.{Talks, TakesNothing, SayCountRose};
+ghost use Rattle.odb_model.specs.Machine.{Machine};
+ghost use Rattle.odb_model.specs.Play.{Answer};
+ghost use Rattle.odb_model.specs.Script.{without_cr};
+ghost use Rattle.odb_system.specs.Held.{StandsFor};
+ghost use Rattle.odb_play.specs.Kept.{HasNoLf, shown_ended, shown_last};
+ghost use Rattle.odb_play.specs.Lines.{head_of_event};
+ghost use Rattle.odb_play.specs.Played.{IsAt, Replies, LineEnds, BytesEnd, FinishEnds};
+
+use crate::bytes::before;
+use crate::event::event_of;
+use crate::front::LONGEST_LINE;
+use odb_device::{Host, say_all};
+use odb_model::{Event, Head, Reply, Status};
+use odb_reply::print_reply;
+use odb_system::System;
+use std::alloc::{AllocError, Global};
+
+/// How many bytes of a line are read: one more than a line can have that asks for a statement, so that a longer line is
+/// told from it.
+pub(crate) const FRONT: usize = LONGEST_LINE + 1;
+
+/// Why a script can't be played on.
+#[derive(Clone, Copy, Debug, PartialEq, Eq)]
+pub(crate) enum Stop {
+    /// The output could not be written on.
+    WriteFault,
+    /// Memory ran out.
+    NoMemory,
+}
+
+impl Stop {
+    ghost use Rattle.odb_play.specs.Played.{status_of};
+
+    /// How the script ends then.
+    pub(crate) fn status(self) -> Status
+        ensures { result ≡ status_of self }
+    {
+        match self {
+            Stop::WriteFault => Status::WriteFault,
+            Stop::NoMemory => Status::NoMemory,
+        }
+    }
+}
+
+/// A system, and the front of the line whose end hasn't come yet.
+#[derive(Debug, Drop)]
+pub(crate) struct Player {
+    pub(crate) system: System,
+    pub(crate) kept: Vec<u8>,
+}
+
+/// Puts the bytes behind those of a line that are kept, as far as there is room.
+fn keep(kept: &mut Vec<u8>, bytes: &[u8]) -> Result<(), AllocError>
+    ensures ok { OnOk result (kept.new.items ≡ kept.old.items ++ take (FRONT + 1 - length kept.old.items) bytes.now) }
+    ensures err { OnErr result (kept.new.items ≡ kept.old.items) }
+{
+    let room = (FRONT + 1).saturating_sub(kept.len());
+    kept.extend_from_slice(&bytes[..room.min(bytes.len())])
+}
+
+/// What is read of a line that an LF ended: without the CR before it, and no longer than a line can be that asks for a step.
+fn ended_line(kept: &[u8]) -> &[u8]
+    ensures { result.now ≡ shown_ended kept.now }
+{
+    if kept.len() > FRONT {
+        return &kept[..FRONT];
+    }
+    strip_cr(kept)
+}
+
+/// The line without a CR at its end.
+fn strip_cr(line: &[u8]) -> &[u8]
+    ensures { result.now ≡ without_cr line.now }
+{
+    match before(line, b"\r") {
+        Some(front) => front,
+        None => line,
+    }
+}
+
+/// What is read of a last line that no LF ended.
+fn last_line(kept: &[u8]) -> &[u8]
+    ensures { result.now ≡ shown_last kept.now }
+{
+    &kept[..FRONT.min(kept.len())]
+}
+
+/// Whom the answer to an event names.
+fn head_of(event: &Event) -> Head
+    ensures { result ≡ head_of_event event.now }
+{
+    match event {
+        Event::Session { session, .. } => Head::Session(*session),
+    }
+}
+
+/// The answer to a line: whom it names, and the reply.
+fn reply_to<H: Host>(system: &mut System, alloc: Global, host: &mut H, line: &[u8]) -> (Head, Reply)
+    ensures answer { (m : Machine) → StandsFor system.old m → Replies line.now m result.0 result.1 system.new }
+    ensures host { H.world host.new ≡ H.world host.old }
+{
+    match event_of(alloc, line) {
+        Ok(event) => (head_of(&event), system.step(alloc, host, &event)),
+        Err(refusal) => (refusal.head(), refusal.reply()),
+    }
+}
+
+/// Answers one line, and says the answer in as few calls as the console allows.
+fn answer<H: Host>(
+    system: &mut System,
+    alloc: Global,
+    host: &mut H,
+    line: &[u8],
+) -> Result<(), Stop>
+    ensures answer { (m : Machine) → StandsFor system.old m → LineEnds line.now m result system.new (H.world host.old) (H.world host.new) }
+    ensures talks { Talks (H.world host.old) (H.world host.new) }
+    ensures input { TakesNothing (H.world host.old) (H.world host.new) }
+    ensures cause { result ≡ Err Stop.WriteFault → SayCountRose (H.world host.old) (H.world host.new) }
+{
+    let (head, reply) = reply_to(system, alloc, host, line);
+    let Ok(text) = print_reply(alloc, head, &reply) else {
+        return Err(Stop::NoMemory);
+    };
+    match say_all(host, text.as_slice()) {
+        Ok(()) => Ok(()),
+        Err(_) => Err(Stop::WriteFault),
+    }
+}
+
+impl Player {
+    /// The line of which these bytes are the end: answers it.
+    fn end_line<H: Host>(&mut self, alloc: Global, host: &mut H, part: &[u8]) -> Result<(), Stop>
+        ensures bytes { (m : Machine) (input : List ℕ) (answers : List Answer) → IsAt m self.old.system self.old.kept.items input answers → HasNoLf part.now
+            → BytesEnd m self.new.system self.new.kept.items (input ++ (part.now ++ 10 ∷ [])) answers result (H.world host.old) (H.world host.new) }
+        ensures talks { Talks (H.world host.old) (H.world host.new) }
+        ensures input { TakesNothing (H.world host.old) (H.world host.new) }
+        ensures cause { result ≡ Err Stop.WriteFault → SayCountRose (H.world host.old) (H.world host.new) }
+    {
+        let Ok(()) = keep(&mut self.kept, part) else {
+            return Err(Stop::NoMemory);
+        };
+        let line = ended_line(self.kept.as_slice());
+        let ended = answer(&mut self.system, alloc, host, line);
+        self.kept.clear();
+        ended
+    }
+
+    /// Takes more bytes of the script, and answers each line that an LF ends.
+    pub(crate) fn feed<H: Host>(
+        &mut self,
+        alloc: Global,
+        host: &mut H,
+        piece: &[u8],
+    ) -> Result<(), Stop>
+        ensures bytes { (m : Machine) (input : List ℕ) (answers : List Answer) → IsAt m self.old.system self.old.kept.items input answers
+            → BytesEnd m self.new.system self.new.kept.items (input ++ piece.now) answers result (H.world host.old) (H.world host.new) }
+        ensures talks { Talks (H.world host.old) (H.world host.new) }
+        ensures input { TakesNothing (H.world host.old) (H.world host.new) }
+        ensures cause { result ≡ Err Stop.WriteFault → SayCountRose (H.world host.old) (H.world host.new) }
+    {
+        let mut rest = piece;
+        while let Some(end) = end_of_line(rest) {
+            self.end_line(alloc, host, &rest[..end])?;
+            rest = &rest[end + 1..];
+        }
+        let Ok(()) = keep(&mut self.kept, rest) else {
+            return Err(Stop::NoMemory);
+        };
+        Ok(())
+    }
+
+    /// Answers a last line that no LF ended, if there is one. Nothing may follow.
+    pub(crate) fn finish<H: Host>(&mut self, alloc: Global, host: &mut H) -> Result<(), Stop>
+        ensures bytes { (m : Machine) (input : List ℕ) (answers : List Answer) → IsAt m self.old.system self.old.kept.items input answers
+            → FinishEnds m input answers result (H.world host.old) (H.world host.new) }
+        ensures talks { Talks (H.world host.old) (H.world host.new) }
+        ensures input { TakesNothing (H.world host.old) (H.world host.new) }
+        ensures cause { result ≡ Err Stop.WriteFault → SayCountRose (H.world host.old) (H.world host.new) }
+    {
+        if self.kept.is_empty() {
+            return Ok(());
+        }
+        answer(
+            &mut self.system,
+            alloc,
+            host,
+            last_line(self.kept.as_slice()),
+        )
+    }
+}
+
+/// Where the first LF stands.
+fn end_of_line(bytes: &[u8]) -> Option<usize>
+    ensures { result ≡ position (λ b. b == 10) bytes.now }
+{
+    bytes.iter().position(|b| *b == 10)
+}
