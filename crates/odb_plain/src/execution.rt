@@ -29,10 +29,10 @@ pub fn execute(
     own: &[Write],
 ) -> Result<Outcome, AllocError>
     requires { IsTrue (is_built statement.now) }
-    ensures reply { IfOk result (λ outcome.
-        outcome.reply ≡ (meaning statement.now (after_writes (replay history.now) own.now) (places own.now)).reply) }
-    ensures writes { IfOk result (λ outcome.
-        outcome.writes ≡ (meaning statement.now (after_writes (replay history.now) own.now) (places own.now)).writes) }
+    ensures reply { IfOk result (λ outcome. outcome.reply
+        ≡ (meaning statement.now (after_writes (replay history.now) own.now) (places own.now)).reply) }
+    ensures writes { IfOk result (λ outcome. outcome.writes
+        ≡ (meaning statement.now (after_writes (replay history.now) own.now) (places own.now)).writes) }
     ensures reads { IfOk result (λ outcome. outcome.reads ≡ reads statement.now (replay history.now)) }
 {
     match form_of(statement) {
@@ -69,7 +69,7 @@ fn insert(
     let point = kv_point(alloc, key)?;
     let rows = rows_in(alloc, history, own, &point)?;
     let reads = vec![in alloc; kv_in_dictionary(alloc)?, point]?;
-    let reads = Frozen::new(List::from_vec(reads));
+    let reads = Frozen::from_vec(reads);
     if rows.has(&place) {
         return Ok(Outcome {
             reply: Reply::Duplicate,
@@ -77,9 +77,10 @@ fn insert(
             reads,
         });
     }
+    let writes = Frozen::from_vec(vec![in alloc; write]?);
     Ok(Outcome {
         reply: Reply::Done(1),
-        writes: Frozen::new(List::from_vec(vec![in alloc; write]?)),
+        writes,
         reads,
     })
 }
@@ -100,19 +101,20 @@ fn keys_above(
     Ok(Outcome {
         reply: Reply::Rows(found),
         writes: Frozen::empty(alloc),
-        reads: Frozen::new(List::from_vec(reads)),
+        reads: Frozen::from_vec(reads),
     })
 }
 
 /// The first value of each key, alone in a row, in key order.
 fn first_values(alloc: Global, rows: &Rows) -> Result<ValueRows, AllocError>
-    ensures { IfOk result (λ found. found ≡ map (λ row. unwrap_or (slice_get row.0.1 0) Null ∷ []) (entries rows.now)) }
+    ensures { IfOk result (λ found. found
+        ≡ map (λ row. unwrap_or (slice_get row.0.1 0) Null ∷ []) (entries rows.now)) }
 {
     let mut found = List::new(alloc);
     for (place, _) in rows.iter() {
         let first = vec![in alloc; place.1.as_slice()[0].copy(alloc)?]?;
         found.reserve()?;
-        found.push(Frozen::new(List::from_vec(first)));
+        found.push(Frozen::from_vec(first));
     }
     Ok(Frozen::new(found))
 }

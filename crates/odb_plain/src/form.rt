@@ -76,7 +76,9 @@ fn is_alone(names: &[Text], name: &str) -> bool
 
 /// The number n of WHERE K > n.
 fn number_below_key(filter: &Option<Predicate>) -> Option<i64>
-    ensures { MatchOption result ((n : ℤ) → filter.now ≢ key_above n) (λ n. filter.now ≡ key_above n) }
+    ensures { MatchOption result
+        ((n : ℤ) → filter.now ≢ key_above n)
+        (λ n. filter.now ≡ key_above n) }
 {
     let Some(Predicate::Test { op, left, right }) = filter else {
         return None;
@@ -90,7 +92,9 @@ fn number_below_key(filter: &Option<Predicate>) -> Option<i64>
 
 /// The key and the value of a single tuple of two numbers.
 fn pair_in(tuples: &ValueRows) -> Option<(i64, i64)>
-    ensures { MatchOption result ((key value : ℤ) → tuples.now ≢ pair_of key value ∷ []) (λ pair. tuples.now ≡ pair_of pair.0 pair.1 ∷ []) }
+    ensures { MatchOption result
+        ((key value : ℤ) → tuples.now ≢ pair_of key value ∷ [])
+        (λ pair. tuples.now ≡ pair_of pair.0 pair.1 ∷ []) }
 {
     let [tuple] = tuples.as_slice() else {
         return None;

@@ -7,7 +7,7 @@ ghost use Rattle.odb_model.specs.Reads.{dictionary_row, point_of, range_of};
 ghost use Rattle.odb_plain.specs.Form.{pair_of, key_above};
 
 use odb_model::Write;
-use odb_values::{Edge, Frozen, Key, List, Range, Row, Text, Value, Values};
+use odb_values::{Edge, Frozen, Key, Range, Row, Text, Value, Values};
 use std::alloc::{AllocError, Global};
 
 /// The number of the table KV.
@@ -66,7 +66,7 @@ pub(crate) fn kv_in_dictionary(alloc: Global) -> Result<Range, AllocError>
     let prefix = vec![in alloc; Value::Int(KIND_TABLE), Value::Text(name)]?;
     Ok(Range {
         table: DICTIONARY,
-        prefix: Frozen::new(List::from_vec(prefix)),
+        prefix: Frozen::from_vec(prefix),
         low: Edge::Free,
         high: Edge::Free,
     })
@@ -87,5 +87,5 @@ fn number_alone(alloc: Global, number: i64) -> Result<Values, AllocError>
     ensures { IfOk result (λ values. values ≡ Int number ∷ []) }
 {
     let values = vec![in alloc; Value::Int(number)]?;
-    Ok(Frozen::new(List::from_vec(values)))
+    Ok(Frozen::from_vec(values))
 }

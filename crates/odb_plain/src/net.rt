@@ -46,7 +46,8 @@ fn put_last(
     last: &mut BTreeMap<(u32, Key), Write>,
     write: &Write,
 ) -> Result<(), AllocError>
-    ensures { OnOk result (by_place last.new.entries ≡ insert (by_place last.old.entries) (place_of write.now) write.now) }
+    ensures { OnOk result (by_place last.new.entries
+        ≡ insert (by_place last.old.entries) (place_of write.now) write.now) }
 {
     let place = (write.table, write.key.copy(alloc)?);
     let _replaced = last.insert(place, write.copy(alloc)?)?;
@@ -66,7 +67,8 @@ fn has_row(history: &[Entry], place: &(u32, Key)) -> bool
 
 /// Whether there is a row at a place after writes, from whether there was one before.
 fn is_there_after(before: bool, writes: &[Write], place: &(u32, Key)) -> bool
-    ensures { (s : State) → is_some (get s place.now) ≡ before → is_some (get (after_writes s writes.now) place.now) ≡ result }
+    ensures { (s : State) → is_some (get s place.now) ≡ before
+        → is_some (get (after_writes s writes.now) place.now) ≡ result }
 {
     let mut there = before;
     for write in writes {

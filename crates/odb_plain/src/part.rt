@@ -1,3 +1,4 @@
+//! The rows of a range.
 ghost use Rattle.std.specs.Prelude.{◌≡◌, filter, IfOk, OnOk};
 ghost use Rattle.odb_model.specs.State.{place_of, after_writes, replay, is_in, part_in};
 
@@ -8,15 +9,16 @@ use std::alloc::{AllocError, Global};
 
 /// The rows of a range, where a transaction has made its own writes on a history.
 ///
-/// It goes over the whole history once, and takes memory for what was written inside the range. The
-/// error is want of memory.
+/// It goes over the whole history once, and takes memory for the rows inside the range, in which only
+/// the writes inside the range are copied. The error is want of memory.
 pub fn rows_in(
     alloc: Global,
     history: &[Entry],
     own: &[Write],
     range: &Range,
 ) -> Result<Rows, AllocError>
-    ensures { IfOk result (λ rows. rows ≡ part_in range.now (after_writes (replay history.now) own.now)) }
+    ensures { IfOk result
+        (λ rows. rows ≡ part_in range.now (after_writes (replay history.now) own.now)) }
 {
     let mut rows = Rows::new(alloc);
     for entry in history {
@@ -33,7 +35,8 @@ fn put_inside(
     range: &Range,
     writes: &[Write],
 ) -> Result<(), AllocError>
-    ensures { OnOk result (rows.new ≡ after_writes rows.old (filter (λ write. is_in range.now (place_of write)) writes.now)) }
+    ensures { OnOk result (rows.new
+        ≡ after_writes rows.old (filter (λ write. is_in range.now (place_of write)) writes.now)) }
 {
     for write in writes {
         if range.contains(write.table, &write.key) {

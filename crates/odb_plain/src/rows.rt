@@ -1,3 +1,4 @@
+//! Rows in a map.
 ghost use Rattle.std.specs.Prelude.{◌≡◌, is_some, OnOk, OnErr};
 ghost use Rattle.std.specs.FinMap as map;
 ghost use Rattle.odb_model.specs.State.{place_of, changed};
@@ -24,7 +25,8 @@ impl Model for Rows {
 
     ghost Value = { State };
 
-    ghost coded = { code (coded× coded_ℕ (coded_list cell.the_row.coded)) (coded_list cell.the_row.coded) };
+    ghost coded = { code (coded× coded_ℕ (coded_list cell.the_row.coded))
+        (coded_list cell.the_row.coded) };
 
     ghost view = { λ a. from_entries a.rows.entries };
 }

@@ -1,11 +1,11 @@
 //! A transaction that runs alone, as in a serial execution.
-ghost use Rattle.std.specs.Prelude.{◌≡◌, ◌++◌, All, IfOk, OnOk, IsTrue};
+ghost use Rattle.std.specs.Prelude.{◌≡◌, All, IfOk, IsTrue};
 ghost use Rattle.odb_model.specs.State.{replay};
 ghost use Rattle.odb_model.specs.Meaning.{is_built};
 ghost use Rattle.odb_model.specs.Transaction.{alone};
 
 use crate::{execute, net_writes};
-use odb_model::{Entry, Outcome, Reply, Statement, Write, Writes};
+use odb_model::{Entry, Outcome, Reply, Statement, Writes};
 use odb_values::{Frozen, List};
 use std::alloc::{AllocError, Global};
 
@@ -38,21 +38,10 @@ pub fn alone(alloc: Global, statements: &[Statement], history: &[Entry]) -> Resu
         } = execute(alloc, statement, history, own.as_slice())?;
         replies.reserve()?;
         replies.push(reply);
-        append(&mut own, writes)?;
+        own.append(writes)?;
     }
     Ok(Ran {
         replies: Frozen::new(replies),
         net: net_writes(alloc, history, own.as_slice())?,
     })
-}
-
-/// Puts writes behind those of a list.
-fn append(list: &mut List<Write>, writes: Writes) -> Result<(), AllocError>
-    ensures { OnOk result (list.new ≡ record list.old { items = list.old.items ++ writes }) }
-{
-    for write in writes.into_list().into_vec() {
-        list.reserve()?;
-        list.push(write);
-    }
-    Ok(())
 }

@@ -29,7 +29,7 @@ fn insert(alloc: Global, table: &str, tuple: &[i64]) -> Result<Statement, Fail> 
     let tuples = vec![in alloc; numbers(alloc, tuple)?]?;
     Ok(Statement::Insert {
         table: text(alloc, table)?,
-        tuples: Frozen::new(List::from_vec(tuples)),
+        tuples: Frozen::from_vec(tuples),
     })
 }
 
@@ -42,7 +42,7 @@ fn select(alloc: Global, column: &str, number: i64) -> Result<Statement, Fail> {
         right: Operand::Literal(Value::Int(number)),
     };
     Ok(Statement::Select {
-        what: What::Columns(Frozen::new(List::from_vec(names))),
+        what: What::Columns(Frozen::from_vec(names)),
         table: text(alloc, "KV")?,
         filter: Some(filter),
     })
@@ -82,7 +82,7 @@ fn entry(number: u64, writes: Vec<Write>) -> Entry
     Entry {
         number,
         by: 1,
-        writes: Frozen::new(List::from_vec(writes)),
+        writes: Frozen::from_vec(writes),
     }
 }
 

@@ -26,5 +26,5 @@ returns c =
     let is : c.in_ok-write.write ≡ w = search rules in
     let found = is_some-in_rows c.args.key c.args.value s c.in_ok-rows.rows c.in_ok-point.point c.in_ok-write.write c.in_ok-copy.field-0 c.in_ok-rows.ensures at is c.in_ok-copy.ensures in
     let same = put_all-one s w false (sym found ∙ sym c.has.ensures ∙ c.if-has.false) in
-    let writes : c.new.result ≡ w ∷ [] = search rules in
+    let writes : c.from_vec-writes.result ≡ w ∷ [] = search rules in
     record { reply = sym (ap (λ (m : Meaning). m.reply) same); writes = writes ∙ sym (ap (λ (m : Meaning). m.writes) same); reads = search rules }
