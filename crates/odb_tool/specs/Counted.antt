@@ -1,5 +1,5 @@
 -- What a host shows that counts its faults and tells no content.
-use Rattle.std.specs.Prelude.{ℕ, Bool, false, None}
+use Rattle.std.specs.Prelude.{false, None}
 use Rattle.odb_device.specs.World.{World}
 use Rattle.odb_tool.specs.declared.std_host.Counts.{Counts}
 
