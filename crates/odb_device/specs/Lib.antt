@@ -5,3 +5,4 @@ pub mod Calls
 pub mod Console
 pub mod Connections
 pub mod Moments
+pub mod Laws

@@ -1,5 +1,5 @@
 -- What holds at every moment of a call, and of calls one after another.
-use Rattle.std.specs.Prelude.{◌≡◌, ◌≢◌, ℕ, ◌≤◌, List, Option, is_some}
+use Rattle.std.specs.Prelude.{◌≡◌, ◌≢◌, ℕ, ◌≤◌, List, length, drop, Option, is_some, IfSome}
 use Rattle.odb_device.specs.World.{File, Moment, World, present, file_of}
 use Rattle.odb_device.specs.Images.{IsImageOf}
 
@@ -40,6 +40,11 @@ pub record Passes (Q : Moment → Type 0) (old new : World) : Type 0 where
 abbrev pub AreImages : Moment → (ℕ → List ℕ) → Type 0
 AreImages m images = (file : ℕ) → IsImageOf (m.files file) (images file)
 
--- with the bytes said so far and any images, Q
+-- with all bytes said by then and any images, Q
 abbrev pub EachCrash : (Option (List ℕ) → (ℕ → List ℕ) → Type 0) → Moment → Type 0
 EachCrash Q m = (images : ℕ → List ℕ) → AreImages m images → Q m.said images
+
+-- with the bytes said since an earlier world and any images, Q, where what is said is told
+abbrev pub EachCrashSince : World → (List ℕ → (ℕ → List ℕ) → Type 0) → Moment → Type 0
+EachCrashSince old Q m = (images : ℕ → List ℕ) → AreImages m images
+    → IfSome (present old).said (λ before. IfSome m.said (λ now. Q (drop (length before) now) images))

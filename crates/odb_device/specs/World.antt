@@ -23,15 +23,15 @@ pub record Talk : Type 0 where
   pub take_faults : ℕ
   pub say_faults : ℕ
 
--- the moments from 0 to the present one, and the counts of faults of each file
+-- the moments from 0 to the present one, the count of faults of each file, and the console
 pub record World : Type 0 where
   pub time : ℕ
   pub moment : ℕ → Moment
   pub faults : ℕ → ℕ
   pub talk : Talk
 
--- The present is the moment `time`. So what is said of each moment from `time` on counts now too,
--- and nothing else does before a call comes: both hold by this definition, and no trait has a law of it.
+-- The present is the moment `time`. So what is said of each moment since some time counts now too, and since now there is
+-- no other moment: Laws.antt has both, for every world.
 abbrev pub present : World → Moment
 present w = w.moment w.time
 

@@ -43,7 +43,7 @@ pub trait Listener {
     /// How far the listener is, and its count of faults.
     ghost front: { Self → Front };
 
-    /// Begins to listen at a port of this machine. It is called once, before `accept`.
+    /// Begins to listen at a port of this machine. It is called before `accept`, and again only after `Failed`.
     fn listen(&mut self, port: u16) -> Result<(), Failed>
         requires { (front self.old).stage ≡ Idle }
         ensures count { (front self.old).faults ≤ (front self.new).faults }

@@ -1,7 +1,8 @@
 //! The outside as traits: numbered files with a model of what a crash leaves, a console, links and a listener.
 //!
-//! Each trait has one ghost member, a plain record that its clauses speak of: the bytes, where they are told, and the counts of
-//! faults. A host that tells nothing of content answers `None` there, and keeps its counts alone.
+//! The clauses of files and console speak of one plain record, `World`, and those of a link or a listener of one of its own: the
+//! bytes, where they are told, the counts of faults, and whether the input has ended. What tells nothing of content has `None` in
+//! the place of bytes, and keeps the rest.
 #![tactic(auto)]
 
 mod connection;

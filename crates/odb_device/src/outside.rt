@@ -42,7 +42,7 @@ pub trait Store: Outside {
     /// Writes the bytes from the byte `at` on, over what is there and past the end.
     ///
     /// A gap between the old end and `at` reads as zeros, also where there are no bytes to write. What is written is on the disk
-    /// only after a `sync`. After `Failed` its range may hold any bytes.
+    /// only after a `sync`. After `Failed` its range may hold any bytes, and so may what lies between the old end and the range.
     fn write_at(&mut self, file: u32, at: u64, bytes: &[u8]) -> Result<(), Failed>
         requires { at + length bytes.now ≤ 2 ^ 40 }
         ensures call { CallsOn file (Self.world self.old) (Self.world self.new) }
@@ -50,7 +50,8 @@ pub trait Store: Outside {
         ensures torn { OnErr result (Tears file at (length bytes.now) (Self.world self.old) (Self.world self.new)) }
         ensures cause { HasCause file (Self.world self.old) (Self.world self.new) result };
 
-    /// Puts the file on the disk: then a crash leaves what a read gives. After `Failed` nothing is settled.
+    /// Puts the file on the disk: then a crash leaves what a read gives. After `Failed` nothing is settled, and a read may give
+    /// other bytes than before: any that a crash might have left.
     fn sync(&mut self, file: u32) -> Result<(), Failed>
         ensures call { CallsOn file (Self.world self.old) (Self.world self.new) }
         ensures kept { OnOk result (Keeps file (Self.world self.old) (Self.world self.new)) }
