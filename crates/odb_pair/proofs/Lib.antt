@@ -1,0 +1,6 @@
+mod Beside
+mod Opens
+mod Places
+mod Front
+mod Putting
+mod Fresh
