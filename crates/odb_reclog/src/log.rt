@@ -1,0 +1,72 @@
+ghost use Rattle.std.specs.Prelude.{◌≡◌, ◌^◌, ◌-◌, ◌≤◌, ℕ, List, false, length};
+
+use std::marker::Model;
+
+/// A record log: a region of a file, and the place at which its next record goes.
+///
+/// A body is written behind the closed gate of the next place, and counts from the moment at which that gate is open on the disk.
+/// All places are bytes from the file's start.
+#[derive(Debug, Drop)]
+pub struct RecLog {
+    pub(crate) file: u32,
+    pub(crate) start: u64,
+    pub(crate) end: u64,
+    /// The number of the first record; each later one has the next.
+    pub(crate) first: u64,
+    /// The place of the next record, whose gate is closed on the disk.
+    pub(crate) place: u64,
+    pub(crate) next: u64,
+    /// From here to the end the region is zeros on the disk.
+    pub(crate) clear_from: u64,
+    /// What stands between the next gate and these zeros may differ from what a read gives.
+    pub(crate) touched: bool,
+    /// It is a whole body, whose gate wasn't opened yet.
+    pub(crate) has_body: bool,
+    /// It isn't known whether the gate of the last body is open.
+    pub(crate) in_doubt: bool,
+}
+
+impl Model for RecLog {
+    ghost use Rattle.odb_reclog.specs.Standing.{Log, IsLog};
+
+    ghost Value = { Log };
+
+    ghost view = { λ l. record { file = l.file; start = l.start; end = l.end; first = l.first; place = l.place; next = l.next; clear_from = l.clear_from; touched = l.touched; has_body = l.has_body; in_doubt = l.in_doubt } };
+
+    ghost invariant = { λ l. IsLog (record { file = l.file; start = l.start; end = l.end; first = l.first; place = l.place; next = l.next; clear_from = l.clear_from; touched = l.touched; has_body = l.has_body; in_doubt = l.in_doubt }) };
+}
+
+impl RecLog {
+    ghost use Rattle.odb_reclog.specs.Standing.{AreZero, StandsFor};
+
+    /// Gives the region a later end, in bytes from the file's start. The bytes between the old end and the new one are zeros on the disk.
+    pub fn extend(&mut self, end: u64)
+        requires range { (self.old.end ≤ end) × (end ≤ 2 ^ 40) }
+        requires usable { self.old.in_doubt ≡ false }
+        ensures log { self.new ≡ record self.old { end = end } }
+        ensures stands { (records : List (List ℕ)) (tail bytes : List ℕ) → StandsFor self.old records tail bytes → end ≤ length bytes → AreZero self.old.end end bytes → StandsFor self.new records tail bytes }
+    {
+        self.end = end;
+    }
+
+    /// The number of the next record.
+    pub fn next_number(&self) -> u64
+        ensures { result ≡ self.now.next }
+    {
+        self.next
+    }
+
+    /// The place of the next record, in bytes from the file's start.
+    pub fn place(&self) -> u64
+        ensures { result ≡ self.now.place }
+    {
+        self.place
+    }
+
+    /// How many bytes are left for records; one takes 13 and those of its payload.
+    pub fn room(&self) -> u64
+        ensures { result ≡ self.now.end - self.now.place }
+    {
+        self.end - self.place
+    }
+}
