@@ -1,0 +1,10 @@
+mod Laid
+mod Named
+mod Grown
+mod Replays
+mod Stepped
+mod StoreCalls
+mod ConsoleCalls
+mod Standings
+mod Settled
+mod Crashes

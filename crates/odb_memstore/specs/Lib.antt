@@ -1,0 +1,13 @@
+pub mod Numbered
+pub mod Layout
+pub mod Shelf
+pub mod Recording
+pub mod Replay
+pub mod Tape
+pub mod Calls
+pub mod Standing
+pub mod Laws
+pub mod Host
+pub mod Setting
+pub mod Crash
+pub mod Line

@@ -1,0 +1,85 @@
+-- A host in memory, as proofs see it.
+use Rattle.std.specs.Prelude.{ℕ, ◌+◌, ◌-◌, ◌^◌, min, Bool, true, false, ◌&&◌, List, [], length, take, count_by, Some}
+use Rattle.odb_device.specs.World.{File, Moment, World}
+use Rattle.odb_memstore.specs.declared.recorder.Call.{Call}
+use Rattle.odb_memstore.specs.declared.recorder.Call.TheVariants.{Look, Write, Sync, Take, Say}
+use Rattle.odb_memstore.specs.declared.recorder.Recorded.{Recorded}
+use Rattle.odb_memstore.specs.Numbered.{bytes_of}
+use Rattle.odb_memstore.specs.Recording.{Recording, no_calls, is_on}
+use Rattle.odb_memstore.specs.Replay.{settled, after_calls, said_by}
+
+-- The most bytes of all files together, of all pieces written, and of all that is said; the files before the first
+-- call; the record of the calls; the pieces written, one behind another; all of the input, how much of it was taken,
+-- and whether 0 was answered to `take`; the bytes said.
+pub record Tape : Type 0 where
+  pub room : ℕ
+  pub start : List (ℕ × List ℕ)
+  pub recording : Recording
+  pub pieces : List ℕ
+  pub input : List ℕ
+  pub taken : ℕ
+  pub has_ended : Bool
+  pub said : List ℕ
+
+-- a host to which nothing was called yet, with these files
+abbrev pub fresh : ℕ → ℕ → List (ℕ × List ℕ) → Tape
+fresh room places start = record {
+  room = room;
+  start = start;
+  recording = no_calls places;
+  pieces = [];
+  input = [];
+  taken = 0;
+  has_ended = false;
+  said = [];
+}
+
+-- a file after the first k calls
+abbrev pub file_at : Tape → ℕ → ℕ → File
+file_at tape k file = after_calls tape.pieces file (take k tape.recording.calls) (settled (bytes_of tape.start file))
+
+-- a file now
+abbrev pub file_now : Tape → ℕ → File
+file_now tape file = file_at tape (length tape.recording.calls) file
+
+-- the files and the bytes said after the first k calls
+abbrev pub moment_of : Tape → ℕ → Moment
+moment_of tape k = record {
+  files = λ file. Some (file_at tape k file);
+  said = Some (take (said_by (take k tape.recording.calls)) tape.said);
+}
+
+-- how many calls of a kind failed
+abbrev pub failures : (Call → Bool) → List Recorded → ℕ
+failures is calls = count_by (λ c. is c.call && c.failed) calls
+
+-- the call is a `take`
+abbrev pub is_take : Call → Bool
+is_take Take = true
+is_take (Look file) = false
+is_take (Write file at from len) = false
+is_take (Sync file) = false
+is_take (Say len) = false
+
+-- the call is a `say`
+abbrev pub is_say : Call → Bool
+is_say (Say len) = true
+is_say (Look file) = false
+is_say (Write file at from len) = false
+is_say (Sync file) = false
+is_say Take = false
+
+-- What it shows: each call is a moment, and all is told. A file's count is that of its failed calls, and of all calls of
+-- the store that found no place or no room; like each count it stands still at the end of its type.
+abbrev pub world_of : Tape → World
+world_of tape = record {
+  time = length tape.recording.calls;
+  moment = moment_of tape;
+  faults = λ file. min (failures (is_on file) tape.recording.calls + tape.recording.refused.store) (2 ^ 64 - 1);
+  talk = record {
+    taken = Some (take tape.taken tape.input);
+    has_ended = tape.has_ended;
+    take_faults = min (failures is_take tape.recording.calls + tape.recording.refused.take) (2 ^ 64 - 1);
+    say_faults = min (failures is_say tape.recording.calls + tape.recording.refused.say) (2 ^ 64 - 1);
+  };
+}
