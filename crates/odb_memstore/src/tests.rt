@@ -6,29 +6,29 @@ use odb_device::{Console, Link, Store};
 use std::alloc::Global;
 use std::test::Fail;
 
-/// A `write_at` is answered Ok.
+/// Writes these bytes.
 fn writes<S: Store>(store: &mut S, file: u32, at: u64, bytes: &[u8]) -> bool
     requires { at + length bytes.now ≤ 2 ^ 40 }
 {
     store.write_at(file, at, bytes).is_ok()
 }
 
-/// A `sync` is answered Ok.
+/// Syncs the file.
 fn syncs<S: Store>(store: &mut S, file: u32) -> bool {
     store.sync(file).is_ok()
 }
 
-/// The file is as long as these bytes, and reads so.
+/// Finds these bytes, and no more, in the file.
 fn reads<S: Store>(store: &mut S, file: u32, bytes: &[u8]) -> bool {
     let mut out = [0; 8];
-    let long = store.length(file) == Ok(bytes.len() as u64);
+    let is_as_long = store.length(file) == Ok(bytes.len() as u64);
     match store.read_at(file, 0, &mut out) {
-        Ok(n) => long && &out[..n] == bytes,
+        Ok(n) => is_as_long && &out[..n] == bytes,
         Err(_) => false,
     }
 }
 
-/// A `take` of three bytes gives these.
+/// Takes these bytes where there is room for three.
 fn takes<C: Console>(console: &mut C, bytes: &[u8]) -> bool {
     let mut out = [0; 3];
     match console.take(&mut out) {
@@ -37,17 +37,41 @@ fn takes<C: Console>(console: &mut C, bytes: &[u8]) -> bool {
     }
 }
 
-/// The whole of these bytes is said.
+/// Says the whole of these bytes.
 fn says<C: Console>(console: &mut C, bytes: &[u8]) -> bool {
     !bytes.is_empty() && console.say(bytes) == Ok(bytes.len())
 }
 
-/// The host's counts of faults of two files, and how many calls it recorded.
-fn counts(host: &MemHost, first: u64, second: u64, calls: u32) -> bool {
-    host.faults(3) == first && host.faults(4) == second && host.calls() == calls
+/// Has said just these bytes.
+fn has_said(host: &MemHost, bytes: &[u8]) -> bool {
+    host.said() == bytes
 }
 
-/// What a crash behind so many calls leaves of two files.
+/// Receives these bytes where there is room for three.
+fn receives<L: Link>(link: &mut L, bytes: &[u8]) -> bool {
+    let mut out = [0; 3];
+    match link.receive(&mut out) {
+        Ok(n) => &out[..n] == bytes,
+        Err(_) => false,
+    }
+}
+
+/// Sends the whole of these bytes.
+fn sends<L: Link>(link: &mut L, bytes: &[u8]) -> bool {
+    !bytes.is_empty() && link.send(bytes) == Ok(bytes.len())
+}
+
+/// Has sent just these bytes.
+fn has_sent(link: &MemLink, bytes: &[u8]) -> bool {
+    link.sent() == bytes
+}
+
+/// Counts so many faults of the files 3 and 4, and has so many calls on the record.
+fn counts(host: &MemHost, faults: [u64; 2], calls: u32) -> bool {
+    [host.faults(3), host.faults(4)] == faults && host.calls() == calls
+}
+
+/// Leaves these bytes of the files 0 and 1 where a crash comes behind so many calls.
 fn leaves(
     store: &MemStore,
     alloc: Global,
@@ -57,32 +81,44 @@ fn leaves(
     second: &[u8],
 ) -> bool {
     match store.crash(alloc, calls.min(store.calls()), pick) {
-        Ok(left) => left.file(0) == first && left.file(1) == second && left.calls() == 0,
+        Ok(left) => left.file(0) == first && left.file(1) == second && left.faults(0) == 0,
         Err(_) => false,
     }
 }
 
+/// A host with this input, whose second call is to fail.
+fn host_with(alloc: Global, input: &[u8]) -> Result<MemHost, MemError> {
+    let mut host = MemHost::new(alloc, 16, 16)?;
+    host.feed(alloc, input)?;
+    host.fail(alloc, 1)?;
+    Ok(host)
+}
+
+/// A store whose file 0 has these bytes, and whose second call is to fail.
+fn store_with(alloc: Global, bytes: &[u8]) -> Result<MemStore, MemError> {
+    let mut store = MemStore::new(alloc, 32, 8)?;
+    store.set_file(alloc, 0, bytes)?;
+    store.fail(alloc, 1)?;
+    Ok(store)
+}
+
 #[test]
 fn counts_a_listed_sync(rt: HostRuntime) -> Result<(), Fail> {
-    let mut host = MemHost::new(rt.alloc(), 16, 4)?;
-    host.fail(rt.alloc(), 1)?;
+    let mut host = host_with(rt.alloc(), b"")?;
     assert!(rt; writes(&mut host, 3, 0, b"ab"));
     assert!(rt; !syncs(&mut host, 3));
-    assert!(rt; counts(&host, 1, 0, 2));
+    assert!(rt; counts(&host, [1, 0], 2));
     assert!(rt; syncs(&mut host, 3));
-    assert!(rt; counts(&host, 1, 0, 3));
+    assert!(rt; counts(&host, [1, 0], 3));
     Ok(())
 }
 
 #[test]
 fn leaves_what_the_digits_say(rt: HostRuntime) -> Result<(), Fail> {
-    let alloc = rt.alloc();
-    let mut store = MemStore::new(alloc, 32, 8)?;
-    store.set_file(alloc, 0, b"abcd")?;
-    store.fail(alloc, 1)?;
+    let mut store = store_with(rt.alloc(), b"abcd")?;
     assert!(rt; writes(&mut store, 0, 2, b"WXYZ"));
-    assert!(rt; !writes(&mut store, 0, 7, b"!"));
-    assert!(rt; store.faults(0) == 1);
+    assert!(rt; !writes(&mut store, 0, 7, b"!"), "it is listed");
+    assert!(rt; reads(&mut store, 0, b"abWXYZ"));
     for (pick, left) in [
         (0, b"abcd\0\0\0\0"),
         (1, b"abWXYZ\0\0"),
@@ -90,7 +126,67 @@ fn leaves_what_the_digits_say(rt: HostRuntime) -> Result<(), Fail> {
         (3, b"abcd\0\0\0!"),
         (7, b"abWXYZ\0\xA5"),
     ] {
-        assert!(rt; leaves(&store, alloc, 2, pick, left, b""), "pick {pick}");
+        assert!(rt;
+            leaves(&store, rt.alloc(), 2, pick, left, b""),
+            "pick {pick}"
+        );
     }
+    Ok(())
+}
+
+#[test]
+fn leaves_what_was_synced(rt: HostRuntime) -> Result<(), Fail> {
+    let mut store = store_with(rt.alloc(), b"abcd")?;
+    assert!(rt; writes(&mut store, 0, 0, b"WX"));
+    assert!(rt; !syncs(&mut store, 0), "it is listed");
+    assert!(rt; leaves(&store, rt.alloc(), 2, 2, b"\xA5\xA5cd", b""));
+    assert!(rt; syncs(&mut store, 0));
+    assert!(rt; writes(&mut store, 1, 1, b"new"));
+    assert!(rt; leaves(&store, rt.alloc(), 4, 0, b"WXcd", b"\0\0\0\0"));
+    assert!(rt; leaves(&store, rt.alloc(), 4, 1, b"WXcd", b"\0new"));
+    assert!(rt; leaves(&store, rt.alloc(), 0, 1, b"abcd", b""));
+    Ok(())
+}
+
+#[test]
+fn refuses_past_its_room_and_places(rt: HostRuntime) -> Result<(), Fail> {
+    let mut host = MemHost::new(rt.alloc(), 4, 3)?;
+    assert!(rt; !writes(&mut host, 0, 0, b"abcde"));
+    assert!(rt; !writes(&mut host, 0, 5, b""));
+    assert!(rt; !says(&mut host, b"12345"));
+    assert!(rt; counts(&host, [2, 2], 0));
+    assert!(rt; writes(&mut host, 1, 0, b"abc"));
+    assert!(rt; !writes(&mut host, 1, 0, b"de"), "five bytes of pieces");
+    assert!(rt; writes(&mut host, 0, 1, b""));
+    assert!(rt; says(&mut host, b"1234"));
+    assert!(rt; !syncs(&mut host, 1), "no place is left");
+    assert!(rt; counts(&host, [4, 4], 3));
+    Ok(())
+}
+
+#[test]
+fn takes_to_the_end_and_says_in_pieces(rt: HostRuntime) -> Result<(), Fail> {
+    let mut host = host_with(rt.alloc(), b"START")?;
+    assert!(rt; takes(&mut host, b"STA"));
+    assert!(rt; !takes(&mut host, b"RT"), "it is listed");
+    assert!(rt; takes(&mut host, b"RT"));
+    assert!(rt; takes(&mut host, b""));
+    assert!(rt; says(&mut host, b"0 "));
+    assert!(rt; says(&mut host, b"OK"));
+    assert!(rt; has_said(&host, b"0 OK"));
+    Ok(())
+}
+
+#[test]
+fn links_two_lists(rt: HostRuntime) -> Result<(), Fail> {
+    let mut link = MemLink::new(rt.alloc(), b"abcd", 4)?;
+    link.fail(rt.alloc(), 2)?;
+    assert!(rt; receives(&mut link, b"abc"));
+    assert!(rt; sends(&mut link, b"xyz"));
+    assert!(rt; !receives(&mut link, b"d"), "it is listed");
+    assert!(rt; !sends(&mut link, b"12"), "one byte of room is left");
+    assert!(rt; receives(&mut link, b"d"));
+    assert!(rt; receives(&mut link, b""));
+    assert!(rt; has_sent(&link, b"xyz"));
     Ok(())
 }

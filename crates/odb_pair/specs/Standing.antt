@@ -19,7 +19,8 @@ IsTriedOrOlder pair bytes =
     let other = 1 - pair.place in
     ((sequence other bytes ≡ next pair.sequence) × (payload other bytes ≡ pair.tried)) ⊎ (next (sequence other bytes) ≡ pair.sequence)
 
--- The bytes are those of the pair: the place that counts, 0 or 1, is open and has its number and value, and the other is closed or may be open.
+-- The bytes are those of the pair: the place that counts, 0 or 1, is open and has its number and value,
+-- and the other is closed or may be open.
 pub record StandsFor (pair : Kept) (bytes : List ℕ) : Type 0 where
   pub place : pair.place ≤ 1
   pub long : 1024 ≤ length bytes
@@ -29,7 +30,7 @@ pub record StandsFor (pair : Kept) (bytes : List ℕ) : Type 0 where
   pub closed : pair.closed ≡ true → gate (1 - pair.place) bytes ≢ OPEN
   pub other : pair.closed ≡ false → IsTriedOrOlder pair bytes
 
--- they hold the value kept, or the one tried last since it was put
+-- they hold the value kept, or that of the last broken put since then that came as far as its gate
 abbrev pub HoldsKept : Kept → List ℕ → Type 0
 HoldsKept pair bytes = Holds pair.value bytes ⊎ Holds pair.tried bytes
 
@@ -48,9 +49,10 @@ formatted file value = record { file = file; place = 0; sequence = 1; value = va
 
 -- after a put of this value with Ok: the other place counts, under the next number
 abbrev pub after_put : Kept → List ℕ → Kept
-after_put pair value = record pair { place = 1 - pair.place; sequence = next pair.sequence; value = value; tried = value; closed = false; settled = true }
+after_put pair value =
+    record pair { place = 1 - pair.place; sequence = next pair.sequence; value = value; tried = value; closed = false; settled = true }
 
--- after a put of this value that failed: what counts stays, the pair is unsettled, and this value may be the one tried last
+-- after a put of this value that failed: what counts stays, the pair is unsettled, and this value may be the one tried
 pub record LeavesUnsettled (given : List ℕ) (old new : Kept) : Type 0 where
   pub place : new.place ≡ old.place
   pub sequence : new.sequence ≡ old.sequence

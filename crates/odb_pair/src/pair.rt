@@ -19,16 +19,16 @@ const CLOSED_GATE: u8 = 0;
 
 /// A value of forty bytes that survives a crash, kept at two places of a file: bytes 0 to 63 and bytes 512 to 575.
 ///
-/// A place is a gate of one byte, which is open where it is 0xA5, a number of eight bytes, big-endian, the value, and 15 bytes
-/// that are written as zeros and not looked at. The open place counts, and of two the one whose number comes after the other's,
-/// modulo 2^64. A value is put at the place that doesn't count, behind its closed gate, so a crash at any moment leaves the value
-/// kept or the new one.
+/// A place is a gate of one byte, which is open where it is 0xA5, a number of eight bytes, big-endian, the value, and
+/// 15 bytes that are written as zeros and not looked at. The open place counts, and of two the one whose number comes
+/// after the other's, modulo 2^64. A value is put at the place that doesn't count, behind its closed gate, so a crash
+/// at any moment leaves the value kept or the new one, or, after a put that broke off, the one that it tried.
 ///
-/// A pair reads and writes the file's first 1,024 bytes alone, and takes no memory but for arrays on the stack. Contracts see
-/// it as a `Kept`, and bytes that are its own as those that it `StandsFor`.
+/// A pair reads and writes the file's first 1,024 bytes alone, and takes no memory but arrays on the stack. Contracts
+/// see it as a `Kept`, and say by `StandsFor` which bytes are those of a pair.
 ///
-/// After a fault in `put` or `settle` the pair is unsettled: a crash may leave the value kept, or the one that was tried last. The
-/// next put, of whatever value, settles it.
+/// After a fault in `put` or `settle` the pair is unsettled: a crash may leave the value kept, or that of the last
+/// broken put that came as far as its gate. A later put with Ok, of whatever value, settles it.
 #[derive(Debug, Drop)]
 pub struct Pair {
     file: u32,
@@ -64,13 +64,15 @@ impl Model for Pair {
 }
 
 impl Pair {
-    /// Makes a pair of the file's first 1,024 bytes, with this value at place 0 under the number 1, and makes the file as long
-    /// where it is shorter.
+    /// Makes a pair of the file's first 1,024 bytes, with this value at place 0 under the number 1. A file that is
+    /// shorter grows to them.
     ///
-    /// It writes 1,024 zeros, then the number and the value, then the gate, and syncs after each: three writes and three syncs,
-    /// and 1,024 bytes of the stack. A crash in the midst of it leaves any bytes there, and so does `Fault`, the only refusal.
+    /// It writes 1,024 zeros, then the number and the value, then the gate, with a sync after each: three writes and
+    /// three syncs, and 1,024 bytes of the stack. A crash before it ends, and `Fault`, the only refusal, may leave any
+    /// bytes there.
     pub fn format<S: Store>(store: &mut S, file: u32, value: &[u8; 40]) -> Result<Pair, PairError>
-        ensures run { Runs file (TornFrom 0 1024 (file_of file (S.world store.old))) (S.world store.old) (S.world store.new) }
+        ensures run { Runs file (TornFrom 0 1024 (file_of file (S.world store.old)))
+            (S.world store.old) (S.world store.new) }
         ensures stands { IfOk result (λ pair. EachImage (StandsFor pair) (file_of file (S.world store.new))) }
         ensures holds { OnOk result (EachImage (Holds value.now) (file_of file (S.world store.new))) }
         ensures pair { IfOk result (λ pair. (pair.file ≡ file) × (pair.value ≡ value.now) × (pair.settled ≡ true)) }
@@ -94,13 +96,16 @@ impl Pair {
 
     /// The pair that the file's bytes are, once they are on the disk: one sync and one read of 1,024 bytes, onto the stack.
     ///
-    /// It refuses `NoOpenPlace` and `Malformed` exactly by the two gates, the numbers and the file's length, as `opened` says, and
-    /// `Fault` where the sync or the read failed. It writes nothing. The sync comes first, so what is read is all that a crash
-    /// leaves, and the pair is settled; but after `Fault` a crash may still leave what it might have left before.
+    /// It refuses `NoOpenPlace` and `Malformed` exactly by the two gates, the numbers and the file's length, as `opened`
+    /// says, and `Fault` where the sync or the read failed. It writes nothing. The sync comes first, so what is read is
+    /// all that a crash leaves, and the pair is settled; after `Fault` a crash may still leave what it might have left
+    /// before.
     pub fn open<S: Store>(store: &mut S, file: u32) -> Result<Pair, PairError>
-        ensures run { Runs file (TornFrom 0 0 (file_of file (S.world store.old))) (S.world store.old) (S.world store.new) }
+        ensures run { Runs file (TornFrom 0 0 (file_of file (S.world store.old)))
+            (S.world store.old) (S.world store.new) }
         ensures kept { result ≢ Err PairError.Fault → Keeps file (S.world store.old) (S.world store.new) }
-        ensures answer { IfSome (file_of file (S.world store.old)) (λ f. IsAnswer (result_map (λ pair. pair.value) result) (opened f.bytes)) }
+        ensures answer { IfSome (file_of file (S.world store.old))
+            (λ f. IsAnswer (result_map (λ pair. pair.value) result) (opened f.bytes)) }
         ensures stands { IfOk result (λ pair. EachImage (StandsFor pair) (file_of file (S.world store.new))) }
         ensures holds { IfOk result (λ pair. EachImage (Holds pair.value) (file_of file (S.world store.new))) }
         ensures pair { IfOk result (λ pair. (pair.file ≡ file) × (pair.settled ≡ true)) }
@@ -125,16 +130,19 @@ impl Pair {
 
     /// Puts a value at the place that doesn't count, which counts from then on, under the next number modulo 2^64.
     ///
-    /// It closes that place's gate, writes the number and the value, and opens the gate, with a sync after each: at most three
-    /// writes and three syncs, and two of each where the gate is closed on the disk already.
+    /// It closes that place's gate, writes the number and the value, and opens the gate, with a sync after each: at most
+    /// three writes and three syncs, and two of each where the gate is closed on the disk already.
     ///
-    /// At each moment of it a crash leaves the value kept, the one tried last or this one; after Ok this one alone. After `Fault`,
-    /// the only refusal, the pair is unsettled: the place, the number and the value kept are as before, and a crash may leave
-    /// besides the value kept this one, or the one tried before it.
+    /// At each moment of it a crash leaves the value kept, this one, or that of the last broken put that came as far as
+    /// its gate; after Ok this one alone.
+    /// After `Fault`, the only refusal, the pair is unsettled: the place, the number and the value kept are as before,
+    /// and a crash may leave besides the value kept this one, or the one tried before it.
     pub fn put<S: Store>(&mut self, store: &mut S, value: &[u8; 40]) -> Result<(), PairError>
         requires { EachImage (StandsFor self.old) (file_of self.old.file (S.world store.old)) }
-        ensures run { Runs self.old.file (EachImage (HoldsKeptOr self.old value.now)) (S.world store.old) (S.world store.new) }
-        ensures beside { Runs self.old.file (TornFrom 0 1024 (file_of self.old.file (S.world store.old))) (S.world store.old) (S.world store.new) }
+        ensures run { Runs self.old.file (EachImage (HoldsKeptOr self.old value.now))
+            (S.world store.old) (S.world store.new) }
+        ensures beside { Runs self.old.file (TornFrom 0 1024 (file_of self.old.file (S.world store.old)))
+            (S.world store.old) (S.world store.new) }
         ensures stands { EachImage (StandsFor self.new) (file_of self.old.file (S.world store.new)) }
         ensures holds { OnOk result (EachImage (Holds value.now) (file_of self.old.file (S.world store.new))) }
         ensures ok { OnOk result ((self.new.value ≡ value.now) × (self.new.settled ≡ true)) }
@@ -155,11 +163,13 @@ impl Pair {
 
     /// Puts the value kept once more where the pair is unsettled, as `put` does; else it makes no call of the store.
     ///
-    /// After Ok a crash leaves the value kept alone. After `Fault`, the only refusal, the pair is as after a `put` that failed.
+    /// After Ok a crash leaves the value kept alone. After `Fault`, the only refusal, the pair is as after a `put` that
+    /// failed.
     pub fn settle<S: Store>(&mut self, store: &mut S) -> Result<(), PairError>
         requires { EachImage (StandsFor self.old) (file_of self.old.file (S.world store.old)) }
         ensures run { Runs self.old.file (EachImage (HoldsKept self.old)) (S.world store.old) (S.world store.new) }
-        ensures beside { Runs self.old.file (TornFrom 0 1024 (file_of self.old.file (S.world store.old))) (S.world store.old) (S.world store.new) }
+        ensures beside { Runs self.old.file (TornFrom 0 1024 (file_of self.old.file (S.world store.old)))
+            (S.world store.old) (S.world store.new) }
         ensures stands { EachImage (StandsFor self.new) (file_of self.old.file (S.world store.new)) }
         ensures holds { OnOk result (EachImage (Holds self.old.value) (file_of self.old.file (S.world store.new))) }
         ensures ok { OnOk result (self.new.settled ≡ true) }
@@ -194,12 +204,15 @@ impl Pair {
         self.value
     }
 
-    /// Closes the gate of the place that doesn't count, where it isn't closed on the disk: at most one write and one sync.
+    /// Closes the gate of the place that doesn't count, where it isn't closed on the disk: at most one write and one
+    /// sync.
     fn close<S: Store>(&mut self, store: &mut S) -> Result<(), Failed>
         requires { EachImage (StandsFor self.old) (file_of self.old.file (S.world store.old)) }
         ensures run { Runs self.old.file (EachImage (StandsFor self.old)) (S.world store.old) (S.world store.new) }
-        ensures beside { Runs self.old.file (TornFrom 0 1024 (file_of self.old.file (S.world store.old))) (S.world store.old) (S.world store.new) }
-        ensures stands { OnOk result (EachImage (StandsFor (record self.old { closed = true })) (file_of self.old.file (S.world store.new))) }
+        ensures beside { Runs self.old.file (TornFrom 0 1024 (file_of self.old.file (S.world store.old)))
+            (S.world store.old) (S.world store.new) }
+        ensures stands { OnOk result
+            (EachImage (StandsFor (record self.old { closed = true })) (file_of self.old.file (S.world store.new))) }
         ensures ok { OnOk result (self.new ≡ record self.old { closed = true }) }
         ensures err { OnErr result (self.new ≡ self.old) }
         ensures cause { HasCause self.old.file (S.world store.old) (S.world store.new) result }
@@ -211,12 +224,14 @@ impl Pair {
         Ok(())
     }
 
-    /// Writes the number and the value of the place that doesn't count, behind its closed gate: one write and one sync.
+    /// Writes the number and the value of the place that doesn't count, behind its closed gate: one write and one
+    /// sync.
     fn fill<S: Store>(&self, store: &mut S, value: &[u8; 40]) -> Result<(), Failed>
         requires closed { self.now.closed ≡ true }
         requires stands { EachImage (StandsFor self.now) (file_of self.now.file (S.world store.old)) }
         ensures run { Runs self.now.file (EachImage (StandsFor self.now)) (S.world store.old) (S.world store.new) }
-        ensures beside { Runs self.now.file (TornFrom 0 1024 (file_of self.now.file (S.world store.old))) (S.world store.old) (S.world store.new) }
+        ensures beside { Runs self.now.file (TornFrom 0 1024 (file_of self.now.file (S.world store.old)))
+            (S.world store.old) (S.world store.new) }
         ensures filled { OnOk result (EachImage (IsFilled self.now value.now) (file_of self.now.file (S.world store.new))) }
         ensures cause { HasCause self.now.file (S.world store.old) (S.world store.new) result }
     {
@@ -224,13 +239,16 @@ impl Pair {
         write_synced(store, self.file, self.other_start() + 1, &body)
     }
 
-    /// Opens the gate of the place that doesn't count, and counts that place where this is done: one write and one sync.
+    /// Opens the gate of the place that doesn't count, and counts that place where this is done: one write and one
+    /// sync.
     #[tactic(auto, unfolding(crate::specs::Places::next))]
     fn open_gate<S: Store>(&mut self, store: &mut S, value: &[u8; 40]) -> Result<(), Failed>
         requires unsettled { self.old.settled ≡ false }
         requires filled { EachImage (IsFilled self.old value.now) (file_of self.old.file (S.world store.old)) }
-        ensures run { Runs self.old.file (EachImage (StandsFor (record self.old { tried = value.now; closed = false }))) (S.world store.old) (S.world store.new) }
-        ensures beside { Runs self.old.file (TornFrom 0 1024 (file_of self.old.file (S.world store.old))) (S.world store.old) (S.world store.new) }
+        ensures run { Runs self.old.file (EachImage (StandsFor (record self.old { tried = value.now; closed = false })))
+            (S.world store.old) (S.world store.new) }
+        ensures beside { Runs self.old.file (TornFrom 0 1024 (file_of self.old.file (S.world store.old)))
+            (S.world store.old) (S.world store.new) }
         ensures stands { EachImage (StandsFor self.new) (file_of self.old.file (S.world store.new)) }
         ensures ok { OnOk result (self.new ≡ record (after_put self.old value.now) { settled = false }) }
         ensures err { OnErr result (self.new ≡ record self.old { tried = value.now; closed = false }) }

@@ -21,9 +21,10 @@ pub struct CountingPlace {
     pub alone: bool,
 }
 
-/// The value that a file's bytes hold, by the definition alone: no store is called, and only the first 1,024 bytes are looked at.
+/// The value that the bytes of a file hold, for a reader that has them all. It calls no store, and looks at the first
+/// 1,024 bytes and at the length alone.
 ///
-/// `NoOpenPlace` and `Malformed` come as from `open`; `Fault` never comes.
+/// `NoOpenPlace` and `Malformed` come as from `Pair::open`; `Fault` never comes.
 pub fn value_of(bytes: &[u8]) -> Result<[u8; 40], PairError>
     ensures answer { IsAnswer result (opened bytes.now) }
     ensures no_fault { result ≢ Err PairError.Fault }

@@ -42,26 +42,31 @@ number_part place bytes = ap (from_be_bytes w64) (part-part place 13 5 8 bytes (
 pub head_part : (place : ℕ) (bytes : List ℕ) → head_at 0 (part place 13 bytes) ≡ head_at place bytes
 head_part place bytes = cc (gate_part place bytes, size_part place bytes, number_part place bytes)
 
-pub head_of_part : (place n : ℕ) (bytes : List ℕ) (head : Head) → n ≡ 13 → head ≡ head_at 0 (part place n bytes) → head ≡ head_at place bytes
+pub head_of_part : (place n : ℕ) (bytes : List ℕ) (head : Head) → n ≡ 13 → head ≡ head_at 0 (part place n bytes)
+    → head ≡ head_at place bytes
 head_of_part place n bytes head size is = is ∙ ap (λ (k : ℕ). head_at 0 (part place k bytes)) size ∙ head_part place bytes
 
 -- of bytes that hold those of the file from a place on
-pub head_shown : (from held place : ℕ) (window bytes : List ℕ) → take held window ≡ part from held bytes → from ≤ place → place + 13 ≤ from + held → head_at 0 (part (place - from) 13 window) ≡ head_at place bytes
+pub head_shown : (from held place : ℕ) (window bytes : List ℕ) → take held window ≡ part from held bytes → from ≤ place
+    → place + 13 ≤ from + held → head_at 0 (part (place - from) 13 window) ≡ head_at place bytes
 head_shown from held place window bytes shows below above =
     let k = place - from in
     let there : from + k ≡ place = omega arith in
     let same : part k 13 window ≡ part place 13 bytes =
-    sym (part-take held k 13 window (omega arith)) ∙ ap (part k 13) shows ∙ part-part from held k 13 bytes (omega arith) ∙ ap (λ (p : ℕ). part p 13 bytes) there in
+    sym (part-take held k 13 window (omega arith)) ∙ ap (part k 13) shows ∙ part-part from held k 13 bytes (omega arith)
+    ∙ ap (λ (p : ℕ). part p 13 bytes) there in
     ap (head_at 0) same ∙ head_part place bytes
 
-pub shows_head : (o : Option File) (from held place n : ℕ) (window : List ℕ) (head : Head) → n ≡ 13 → head ≡ head_at 0 (part (place - from) n window) → from ≤ place → place + 13 ≤ from + held
+pub shows_head : (o : Option File) (from held place n : ℕ) (window : List ℕ) (head : Head) → n ≡ 13
+    → head ≡ head_at 0 (part (place - from) n window) → from ≤ place → place + 13 ≤ from + held
     → IfSome o (λ f. take held window ≡ part from held f.bytes) → IfSome o (λ f. head ≡ head_at place f.bytes)
 shows_head None from held place n window head size is below above shows = tt
 shows_head (Some f) from held place n window head size is below above shows =
     is ∙ ap (λ (k : ℕ). head_at 0 (part (place - from) k window)) size ∙ head_shown from held place window f.bytes shows below above
 
 -- of thirteen bytes that were read at a place
-pub head_read : (o : Option File) (at n : ℕ) (out : List ℕ) (head : Head) → n ≡ 13 → length out ≡ 13 → head ≡ head_at 0 out → HasRead o at n out
+pub head_read : (o : Option File) (at n : ℕ) (out : List ℕ) (head : Head) → n ≡ 13 → length out ≡ 13 → head ≡ head_at 0 out
+    → HasRead o at n out
     → IfSome o (λ f. at + 13 ≤ length f.bytes → Some head ≡ Some (head_at at f.bytes))
 head_read None at n out head whole size is read = tt
 head_read (Some f) at n out head whole size is read = λ long.

@@ -26,7 +26,8 @@ module _ (start end first at n : ℕ) where
           let same : f.bytes ≡ image = sym (image_kept (kept f) image (refl, refl) im) in
           (f.bytes, reads, subst (Torn at n f.bytes) same (torn_same at n f.bytes), ap (log_of start end first) (sym same))
 
-  pub keeps_from : (old mid new : Option File) → ReadsImage old → mid ≡ option_map kept old → KeepsLists start end first at n mid new → KeepsLists start end first at n old new
+  pub keeps_from : (old mid new : Option File) → ReadsImage old → mid ≡ option_map kept old → KeepsLists start end first at n mid new
+      → KeepsLists start end first at n old new
   keeps_from None mid new reads is keeps = subst (λ (o : Option File). KeepsLists start end first at n o new) is keeps
   keeps_from (Some f) mid None reads is keeps = tt
   keeps_from (Some f) mid (Some g) reads is keeps = λ image im.
@@ -35,24 +36,32 @@ module _ (start end first at n : ℕ) where
       (f.bytes, reads, subst (λ (l : List ℕ). Torn at n l image) same b.2, b.3 ∙ ap (log_of start end first) same)
 
   -- a sync and reads behind it
-  pub settle_run : (file : ℕ) (w w1 w2 : World) → ReadsImage (file_of file w) → CallsOn file w w1 → Keeps file w w1 → Runs file (λ f. f ≡ file_of file w1) w1 w2
+  pub settle_run : (file : ℕ) (w w1 w2 : World) → ReadsImage (file_of file w) → CallsOn file w w1 → Keeps file w w1
+      → Runs file (λ f. f ≡ file_of file w1) w1 w2
       → Runs file (KeepsLists start end first at n (file_of file w)) w w2
   settle_run file w w1 w2 reads call is_kept run =
       let P = KeepsLists start end first at n (file_of file w) in
       let here = keeps_kept (file_of file w) (file_of file w1) reads is_kept in
-      joins file P w w1 w2 (goes_on file P w w w1 (begins file P w (keeps_same start end first at n (file_of file w) (file_of file w) refl)) call here)
+      joins file P w w1 w2
+      (goes_on file P w w w1 (begins file P w (keeps_same start end first at n (file_of file w) (file_of file w) refl)) call here)
       (weakens file (λ f. f ≡ file_of file w1) P w1 w2 (λ o is. subst P (sym is) here) run)
 
   -- and the gate's closing behind these
-  pub open_run : (file : ℕ) (w w1 w2 : World) → ReadsImage (file_of file w) → Runs file (KeepsLists start end first at n (file_of file w)) w w1 → Keeps file w w1
-      → Runs file (KeepsLists start end first at n (file_of file w1)) w1 w2 → Runs file (KeepsLists start end first at n (file_of file w)) w w2
+  pub open_run : (file : ℕ) (w w1 w2 : World) → ReadsImage (file_of file w)
+      → Runs file (KeepsLists start end first at n (file_of file w)) w w1 → Keeps file w w1
+      → Runs file (KeepsLists start end first at n (file_of file w1)) w1 w2
+      → Runs file (KeepsLists start end first at n (file_of file w)) w w2
   open_run file w w1 w2 reads before is_kept run =
       let P = KeepsLists start end first at n (file_of file w) in
-      joins file P w w1 w2 before (weakens file (KeepsLists start end first at n (file_of file w1)) P w1 w2 (λ o keeps. keeps_from (file_of file w) (file_of file w1) o reads is_kept keeps) run)
+      joins file P w w1 w2 before
+      (weakens file (KeepsLists start end first at n (file_of file w1)) P w1 w2
+      (λ o keeps. keeps_from (file_of file w) (file_of file w1) o reads is_kept keeps) run)
 
 -- the bytes that an opened log stands for
-stands_bytes : (log : Log) (found : ListEnd) (old new : List ℕ) → IsLog log → log.place ≡ found.place → log.next ≡ found.number → log.end ≤ log.clear_from → log.end ≤ length old
-    → EndsAt log.start log.end log.first found old → HasClosed log.start log.end log.first log.place old new → StandsFor log (log_of log.start log.end log.first new) (tail_at log new) new
+stands_bytes : (log : Log) (found : ListEnd) (old new : List ℕ) → IsLog log → log.place ≡ found.place → log.next ≡ found.number
+    → log.end ≤ log.clear_from → log.end ≤ length old
+    → EndsAt log.start log.end log.first found old → HasClosed log.start log.end log.first log.place old new
+    → StandsFor log (log_of log.start log.end log.first new) (tail_at log new) new
 stands_bytes log found old new in_range place next clear long ends closed = record {
   in_range = in_range;
   long = omega (arith, closed.long);
@@ -64,8 +73,10 @@ stands_bytes log found old new in_range place next clear long ends closed = reco
   tail = λ untouched. refl;
 }
 
-module _ (log : Log) (found : ListEnd) (in_range : IsLog log) (place : log.place ≡ found.place) (next : log.next ≡ found.number) (clear : log.end ≤ log.clear_from) where
-  pub open_stands : (old new : Option File) → new ≡ option_map (closed_at log.place log.end) old → IfSome old (λ f. log.end ≤ length f.bytes)
+module _ (log : Log) (found : ListEnd) (in_range : IsLog log) (place : log.place ≡ found.place) (next : log.next ≡ found.number)
+    (clear : log.end ≤ log.clear_from) where
+  pub open_stands : (old new : Option File) → new ≡ option_map (closed_at log.place log.end) old
+      → IfSome old (λ f. log.end ≤ length f.bytes)
       → IfSome old (λ f. EndsAt log.start log.end log.first found f.bytes) → Stands log new
   open_stands None new is long ends = subst (Stands log) (sym is) tt
   open_stands (Some f) new is long ends = subst (Stands log) (sym is) each
@@ -74,10 +85,12 @@ module _ (log : Log) (found : ListEnd) (in_range : IsLog log) (place : log.place
       each image im =
           let g = closed_at log.place log.end f in
           let closed = closed_has log.start log.end log.first log.place f long (ends.place ∙ sym place) in
-          subst (StandsFor log (log_of log.start log.end log.first g.bytes) (tail_at log g.bytes)) (sym (image_kept g image (refl, refl) im))
+          subst (StandsFor log (log_of log.start log.end log.first g.bytes) (tail_at log g.bytes))
+          (sym (image_kept g image (refl, refl) im))
           (stands_bytes log found f.bytes g.bytes in_range place next clear long ends closed)
 
   pub open_list : (old new : Option File) → new ≡ option_map (closed_at log.place log.end) old → IfSome old (λ f. log.end ≤ length f.bytes)
       → IfSome old (λ f. EndsAt log.start log.end log.first found f.bytes) → list_of log new ≡ list_in log.start log.end log.first old
   open_list None new is long ends = ap (list_of log) is
-  open_list (Some f) new is long ends = ap (list_of log) is ∙ (closed_has log.start log.end log.first log.place f long (ends.place ∙ sym place)).list
+  open_list (Some f) new is long ends =
+      ap (list_of log) is ∙ (closed_has log.start log.end log.first log.place f long (ends.place ∙ sym place)).list

@@ -20,6 +20,7 @@ IsRecordIn log at found o = IfSome o (λ f. found ≡ record_in log.start log.fi
 pub record IsInOrder (log : Log) (at : ℕ) (bytes : List ℕ) : Type 0 where
   pub reads : ReadsRecord log.start log.first at (log_of log.start log.end log.first bytes) bytes
   pub ends : end_at at bytes ≤ log.place
+  pub high : log.first ≤ number_at at bytes
   pub low : number_at at bytes < log.next
   pub long : log.place ≤ length bytes
 
@@ -48,22 +49,27 @@ module _ (log : Log) (at : ℕ) where
       record {
         reads = r;
         ends = omega (arith, r.within, s.place);
+        high = r.high;
         low = omega (arith, r.low, s.number);
         long = omega (arith, s.long, s.in_range.end);
       }
 
   -- so the head is read, and is in order
-  pub head_in_order : (o : Option File) (found : Option Head) → IfSome o (λ f. IsInOrder log at f.bytes) → IfSome o (λ f. at + 13 ≤ length f.bytes → found ≡ Some (head_at at f.bytes))
+  pub head_in_order : (o : Option File) (found : Option Head) → IfSome o (λ f. IsInOrder log at f.bytes)
+      → IfSome o (λ f. at + 13 ≤ length f.bytes → found ≡ Some (head_at at f.bytes))
       → IfSome o (λ f. found ≡ Some (head_at at f.bytes))
   head_in_order None found order reads = tt
   head_in_order (Some f) found order reads = reads (omega (arith, order.ends, order.long))
 
-  pub head_there : (o : Option File) (found : Option Head) → IfSome o (λ f. found ≡ Some (head_at at f.bytes)) → found ≡ None → IsRecordIn log at None o
+  pub head_there : (o : Option File) (found : Option Head) → IfSome o (λ f. found ≡ Some (head_at at f.bytes)) → found ≡ None
+      → IsRecordIn log at None o
   head_there None found is none = tt
   head_there (Some f) found is none = absurd (cc (is, none))
 
-  pub order_kept : (o : Option File) (head : Head) → IfSome o (λ f. IsInOrder log at f.bytes) → IfSome o (λ f. Some head ≡ Some (head_at at f.bytes))
-      → (head.gate ≢ OPEN) ⊎ (log.next ≤ head.number) ⊎ (log.place < at + HEAD + head.size) → IsRecordIn log at None o
+  pub order_kept : (o : Option File) (head : Head) → IfSome o (λ f. IsInOrder log at f.bytes)
+      → IfSome o (λ f. Some head ≡ Some (head_at at f.bytes))
+      → (head.gate ≢ OPEN) ⊎ (head.number < log.first) ⊎ (log.next ≤ head.number) ⊎ (log.place < at + HEAD + head.size)
+      → IsRecordIn log at None o
   order_kept None head order is broken = tt
   order_kept (Some f) head order is broken =
       let gate : head.gate ≡ OPEN = cc (is, order.reads.is_open) in
@@ -71,13 +77,16 @@ module _ (log : Log) (at : ℕ) where
       let size : head.size ≡ size_at at f.bytes = cc is in
       absurd (elim broken [
         | inl shut ↦ shut gate
-        | inr (inl high) ↦ omega (arith, order.low)
-        | inr (inr far) ↦ omega (arith, order.ends)
+        | inr (inl under) ↦ omega (arith, order.high)
+        | inr (inr (inl over)) ↦ omega (arith, order.low)
+        | inr (inr (inr far)) ↦ omega (arith, order.ends)
       ])
 
   -- and so is the payload
-  pub record_found : (o : Option File) (head : Head) (payload : List ℕ) (next : ℕ) → IfSome o (λ f. IsInOrder log at f.bytes) → IfSome o (λ f. Some head ≡ Some (head_at at f.bytes))
-      → IfSome o (λ f. at + HEAD + head.size ≤ length f.bytes → Some payload ≡ Some (part (at + HEAD) head.size f.bytes)) → next ≡ at + HEAD + head.size
+  pub record_found : (o : Option File) (head : Head) (payload : List ℕ) (next : ℕ) → IfSome o (λ f. IsInOrder log at f.bytes)
+      → IfSome o (λ f. Some head ≡ Some (head_at at f.bytes))
+      → IfSome o (λ f. at + HEAD + head.size ≤ length f.bytes → Some payload ≡ Some (part (at + HEAD) head.size f.bytes))
+      → next ≡ at + HEAD + head.size
       → IsRecordIn log at (Some (record { number = head.number; payload = payload; next = next })) o
   unfolding payload_at
   record_found None head payload next order is bytes ends = tt
@@ -89,15 +98,8 @@ module _ (log : Log) (at : ℕ) where
       let next_is : next ≡ end_at at f.bytes = cc (ends, size) in
       cc (number, payload_is, next_is, order.reads.found)
 
-  pub payload_there : (o : Option File) (head : Head) (found : Option (List ℕ)) → IfSome o (λ f. IsInOrder log at f.bytes) → IfSome o (λ f. Some head ≡ Some (head_at at f.bytes))
-      → IfSome o (λ f. at + HEAD + head.size ≤ length f.bytes → found ≡ Some (part (at + HEAD) head.size f.bytes)) → found ≡ None → IsRecordIn log at None o
-  payload_there None head found order is bytes none = tt
-  payload_there (Some f) head found order is bytes none =
-      let size : head.size ≡ size_at at f.bytes = cc is in
-      let same : found ≡ Some (part (at + HEAD) head.size f.bytes) = bytes (omega (arith, order.ends, order.long)) in
-      absurd (cc (same, none))
-
-  pub next_found : (o : Option File) (head : Head) (next : ℕ) → IfSome o (λ f. IsInOrder log at f.bytes) → IfSome o (λ f. Some head ≡ Some (head_at at f.bytes)) → next ≡ at + HEAD + head.size
+  pub next_found : (o : Option File) (head : Head) (next : ℕ) → IfSome o (λ f. IsInOrder log at f.bytes)
+      → IfSome o (λ f. Some head ≡ Some (head_at at f.bytes)) → next ≡ at + HEAD + head.size
       → IfSome o (λ f. IsPlaceIn log.start (log_of log.start log.end log.first f.bytes) next)
   next_found None head next order is ends = tt
   next_found (Some f) head next order is ends =

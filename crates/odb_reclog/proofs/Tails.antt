@@ -41,6 +41,18 @@ module _ (log : Log) (w now : World) (touched : Bool) (stands : Stands log (file
   told : is_some (file_of log.file now) ≡ is_some (file_of log.file w)
   told = run.only.told now.time run.only.later (omega arith)
 
+  -- what reads as zeros isn't touched
+  pub tail_untouched : ReadsImage (file_of log.file w) → (log.touched ≡ false → (f : File) → file_of log.file w ≡ Some f → log.clear_from ≤ length f.bytes → AreZero (log.place + 1) log.clear_from f.bytes → touched ≡ false)
+      → log.touched ≡ false → IfSome (file_of log.file w) (λ f. AreZero (log.place + 1) log.end f.bytes → touched ≡ false)
+  tail_untouched reads unwritten e = of_file (file_of log.file w) refl reads stands
+    where
+      of_file : (o : Option File) → file_of log.file w ≡ o → ReadsImage o → Stands log o → IfSome o (λ f. AreZero (log.place + 1) log.end f.bytes → touched ≡ false)
+      of_file None is_none image each = tt
+      of_file (Some f) is_f image each = λ all.
+          let high = is.clear_to in
+          let long = (each f.bytes image).long in
+          unwritten e f is_f (omega arith) (λ i low below. all i low (omega arith))
+
   module _ (untouched : touched ≡ false → (log.touched ≡ false) × Stays log.file w now) where
     pub tail_unwritten : ReadsImage (file_of log.file w) → (log.touched ≡ false → (f : File) → file_of log.file w ≡ Some f → log.clear_from ≤ length f.bytes → AreZero (log.place + 1) log.clear_from f.bytes → touched ≡ false)
         → log.touched ≡ false → IfSome (file_of log.file w) (λ f. AreZero (log.place + 1) log.end f.bytes) → Stays log.file w now

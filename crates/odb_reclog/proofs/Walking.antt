@@ -11,9 +11,11 @@ use Rattle.odb_reclog.specs.declared.window.Window.{Window}
 use Rattle.odb_reclog.proofs.Leading.{next_some, end_more, count_more}
 
 -- calls that leave the file, one part behind another
-pub same_then : (file : ℕ) (w w1 w2 : World) → Runs file (λ f. f ≡ file_of file w) w w1 → Runs file (λ f. f ≡ file_of file w1) w1 w2 → Runs file (λ f. f ≡ file_of file w) w w2
+pub same_then : (file : ℕ) (w w1 w2 : World) → Runs file (λ f. f ≡ file_of file w) w w1 → Runs file (λ f. f ≡ file_of file w1) w1 w2
+    → Runs file (λ f. f ≡ file_of file w) w w2
 same_then file w w1 w2 a b =
-    joins file (λ f. f ≡ file_of file w) w w1 w2 a (weakens file (λ f. f ≡ file_of file w1) (λ f. f ≡ file_of file w) w1 w2 (λ o is. is ∙ run_end file (λ f. f ≡ file_of file w) w w1 a) b)
+    joins file (λ f. f ≡ file_of file w) w w1 w2 a
+    (weakens file (λ f. f ≡ file_of file w1) (λ f. f ≡ file_of file w) w1 w2 (λ o is. is ∙ run_end file (λ f. f ≡ file_of file w) w w1 a) b)
 
 -- the list from the start on ends where that from the place on does
 pub record GoesOn (start end first place number : ℕ) (bytes : List ℕ) : Type 0 where
@@ -28,7 +30,8 @@ pub record Walked (file start end first : ℕ) (old new : World) (window : Windo
   pub to : place ≤ end
   pub count : number + start ≤ first + place
 
-goes_step : (o : Option File) (start end first place number next : ℕ) → IfSome o (λ f. end ≤ length f.bytes) → IfSome o (λ f. Some next ≡ next_at end number place f.bytes)
+goes_step : (o : Option File) (start end first place number next : ℕ) → IfSome o (λ f. end ≤ length f.bytes)
+    → IfSome o (λ f. Some next ≡ next_at end number place f.bytes)
     → IfSome o (λ f. GoesOn start end first place number f.bytes) → IfSome o (λ f. GoesOn start end first next (number + 1) f.bytes)
 goes_step None start end first place number next long is goes = tt
 goes_step (Some f) start end first place number next long is goes =
@@ -38,7 +41,8 @@ goes_step (Some f) start end first place number next long is goes =
       number_same = goes.number_same ∙ count_more end f.bytes long number place s.0;
     })
 
-pub walk_begins : (file start end first : ℕ) (w : World) (window : Window) → start ≤ end → ((file : Option File) → Shows window file) → Walked file start end first w w window start first
+pub walk_begins : (file start end first : ℕ) (w : World) (window : Window) → start ≤ end → ((file : Option File) → Shows window file)
+    → Walked file start end first w w window start first
 walk_begins file start end first w window within shows = record {
   run = begins file (λ f. f ≡ file_of file w) w refl;
   shows = shows (file_of file w);
@@ -53,15 +57,19 @@ walk_begins file start end first w window within shows = record {
     each (Some f) = record { place_same = refl; number_same = refl }
 
 -- one record more
-pub walk_goes_on : (file start end first : ℕ) (w w1 w2 : World) (window after : Window) (place number next : ℕ) (found : Option ℕ) → Walked file start end first w w1 window place number
+pub walk_goes_on : (file start end first : ℕ) (w w1 w2 : World) (window after : Window) (place number next : ℕ) (found : Option ℕ)
+    → Walked file start end first w w1 window place number
     → IfSome (file_of file w) (λ f. end ≤ length f.bytes) → Runs file (λ f. f ≡ file_of file w1) w1 w2 → Shows after (file_of file w1)
-    → IfSome (file_of file w1) (λ f. found ≡ next_at end number place f.bytes) → IfSome found (λ n. (place + 13 ≤ n) × (n ≤ end)) → found ≡ Some next
+    → IfSome (file_of file w1) (λ f. found ≡ next_at end number place f.bytes) → IfSome found (λ n. (place + 13 ≤ n) × (n ≤ end))
+    → found ≡ Some next
     → Walked file start end first w w2 after next (number + 1)
 walk_goes_on file start end first w w1 w2 window after place number next found so_far long run shows is forward is_some =
     let same : file_of file w1 ≡ file_of file w = run_end file (λ f. f ≡ file_of file w) w w1 so_far.run in
-    let ahead : (place + 13 ≤ next) × (next ≤ end) = subst (λ (o : Option ℕ). IfSome o (λ n. (place + 13 ≤ n) × (n ≤ end))) is_some forward in
+    let ahead : (place + 13 ≤ next) × (next ≤ end) =
+    subst (λ (o : Option ℕ). IfSome o (λ n. (place + 13 ≤ n) × (n ≤ end))) is_some forward in
     let is_next : IfSome (file_of file w) (λ f. Some next ≡ next_at end number place f.bytes) =
-    subst (λ (o : Option ℕ). IfSome (file_of file w) (λ f. o ≡ next_at end number place f.bytes)) is_some (subst (λ o. IfSome o (λ f. found ≡ next_at end number place f.bytes)) same is) in
+    subst (λ (o : Option ℕ). IfSome (file_of file w) (λ f. o ≡ next_at end number place f.bytes)) is_some
+    (subst (λ o. IfSome o (λ f. found ≡ next_at end number place f.bytes)) same is) in
     record {
       run = same_then file w w1 w2 so_far.run run;
       shows = subst (Shows after) same shows;

@@ -39,7 +39,9 @@ impl Model for RecLog {
 impl RecLog {
     ghost use Rattle.odb_reclog.specs.Standing.{AreZero, StandsFor};
 
-    /// Gives the region a later end, in bytes from the file's start. The bytes between the old end and the new one are zeros on the disk.
+    /// Gives the region a later end, in bytes from the file's start.
+    ///
+    /// It makes no call of a store: what stands between the old end and the new one has to be zeros on the disk already.
     pub fn extend(&mut self, end: u64)
         requires range { (self.old.end ≤ end) × (end ≤ 2 ^ 40) }
         requires usable { self.old.in_doubt ≡ false }

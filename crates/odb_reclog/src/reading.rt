@@ -23,7 +23,7 @@ impl RecLog {
     /// Opens the log of a region of a file, from the byte `start` to before the byte `end`, whose first record has the number
     /// `first`. Its list is that of the file's bytes as they are read, which are on the disk then.
     ///
-    /// One sync; the region is read in pieces of 65,536 bytes, and payloads that lie beyond a piece are skipped. Where the list ends
+    /// One sync; the list is read in pieces of at most 65,536 bytes, and what of a payload lies beyond a piece is skipped. Where the list ends
     /// inside the region one byte more is read, and a gate that is open there is closed, by one write and one sync. It takes no memory.
     pub fn open<S: Store>(
         store: &mut S,
@@ -62,8 +62,10 @@ impl RecLog {
 
     /// The record at a place, which is that of a record of the list, or its end; None at its end.
     ///
-    /// A record that isn't in order any more, which a store that tells its files never shows, is taken as closed: None. One read of
-    /// 13 bytes and one of the payload, for which memory is taken; at the list's end none. Fault: a read failed.
+    /// A record that isn't in order any more, which a file that is told never shows, is taken as closed: None. One read of 13 bytes and
+    /// one of the payload, for which memory is taken; at the list's end none.
+    ///
+    /// Fault: a read of the file failed. NoMemory: there is none for the payload. Neither changes the log.
     pub fn records<S: Store>(
         &self,
         alloc: Global,
@@ -78,6 +80,8 @@ impl RecLog {
         ensures record { IfSome (file_of self.now.file (S.world store.old)) (λ f. IfOk result (λ found. found ≡ record_in self.now.start self.now.first (log_of self.now.start self.now.end self.now.first f.bytes) at)) }
         ensures next { IfSome (file_of self.now.file (S.world store.old)) (λ f. IfOk result (λ found. IfSome found (λ r. IsPlaceIn self.now.start (log_of self.now.start self.now.end self.now.first f.bytes) r.next))) }
         ensures forward { IfOk result (λ found. IfSome found (λ r. (at < r.next) × (r.next ≤ self.now.place))) }
+        ensures number { IfOk result (λ found. IfSome found (λ r. (self.now.first ≤ r.number) × (r.number < self.now.next))) }
+        ensures size { IfOk result (λ found. IfSome found (λ r. r.next ≡ at + 13 + length r.payload)) }
         ensures refusal { IfErr result (λ e. (e ≡ RecError.Fault) ⊎ (e ≡ RecError.NoMemory)) }
         ensures cause { result ≡ Err RecError.Fault → FileCountRose self.now.file (S.world store.old) (S.world store.new) }
     {
@@ -88,7 +92,11 @@ impl RecLog {
             return Ok(None);
         };
         let next = head.end_from(at);
-        if head.gate != OPEN || head.number >= self.next || next > self.place {
+        if head.gate != OPEN
+            || head.number < self.first
+            || head.number >= self.next
+            || next > self.place
+        {
             return Ok(None);
         }
         match read_bytes(alloc, store, self.file, at + HEAD, head.size)? {
@@ -148,6 +156,7 @@ fn read_bytes<S: Store>(
 ) -> Result<Option<Bytes>, RecError>
     ensures run { Runs file (λ f. f ≡ file_of file (S.world store.old)) (S.world store.old) (S.world store.new) }
     ensures bytes { IfSome (file_of file (S.world store.old)) (λ f. at + size ≤ length f.bytes → IfOk result (λ found. found ≡ Some (part at size f.bytes))) }
+    ensures size { IfOk result (λ found. IfSome found (λ bytes. length bytes ≡ size)) }
     ensures refusal { IfErr result (λ e. (e ≡ RecError.Fault) ⊎ (e ≡ RecError.NoMemory)) }
     ensures cause { result ≡ Err RecError.Fault → FileCountRose file (S.world store.old) (S.world store.new) }
 {

@@ -47,7 +47,7 @@ fn next_place<S: Store>(
 
 /// Where the list of a region ends whose first record has this number.
 ///
-/// One pass over the region in pieces of 65,536 bytes, which skips the payloads that lie beyond a piece.
+/// One pass over the list in pieces of at most 65,536 bytes, which skips what of a payload lies beyond a piece.
 pub(crate) fn find_end<S: Store>(
     store: &mut S,
     file: u32,

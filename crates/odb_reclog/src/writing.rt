@@ -32,7 +32,8 @@ impl RecLog {
     ///
     /// Where the tail is clear it makes no call of the store. Else it goes once over the bytes that may not be zeros, 65,536 at a
     /// time: after a fault or a body that was written all of them are written; else each piece is read, and written where it has
-    /// another byte. One sync follows where something was written. After a fault it may be called again.
+    /// another byte. One sync follows where something was written. A body that was written is given up. After `Fault` it may be
+    /// called again.
     pub fn clear_tail<S: Store>(&mut self, store: &mut S) -> Result<(), RecError>
         requires usable { self.old.in_doubt ≡ false }
         requires stands { Stands self.old (file_of self.old.file (S.world store.old)) }
@@ -43,6 +44,7 @@ impl RecLog {
         ensures same { SameList self.old self.new }
         ensures quiet { IsClear self.old → (result ≡ Ok tt) × (store.new ≡ store.old) }
         ensures unwritten { self.old.touched ≡ false → IfSome (file_of self.old.file (S.world store.old)) (λ f. AreZero (self.old.place + 1) self.old.end f.bytes) → Stays self.old.file (S.world store.old) (S.world store.new) }
+        ensures untouched { self.old.touched ≡ false → IfSome (file_of self.old.file (S.world store.old)) (λ f. AreZero (self.old.place + 1) self.old.end f.bytes → self.new.touched ≡ false) }
         ensures refusal { IfErr result (λ e. e ≡ RecError.Fault) }
         ensures cause { HasCause self.old.file (S.world store.old) (S.world store.new) result }
     {
@@ -64,7 +66,8 @@ impl RecLog {
 
     /// Writes a record behind the closed gate of the next place, and puts it on the disk. It counts only once its gate is open.
     ///
-    /// It takes two writes and one sync; where it doesn't fit it makes no call of the store. After a fault the tail isn't clear.
+    /// It takes two writes and one sync. `Full` says how many bytes it needs and how many are left; then it made no call of the
+    /// store and changed nothing. After `Fault` the tail isn't clear: `clear_tail` comes before the next body.
     pub fn write_body<S: Store>(&mut self, store: &mut S, payload: &[u8]) -> Result<(), RecError>
         requires usable { self.old.in_doubt ≡ false }
         requires size { length payload.now < 2 ^ 32 }
@@ -96,7 +99,7 @@ impl RecLog {
 
     /// Opens the gate of the record that was written, and answers its number. The list then ends with that record.
     ///
-    /// It takes one write and one sync. After a fault it isn't known whether the record counts, and the log is in doubt: only
+    /// It takes one write and one sync. After `Fault` it isn't known whether the record counts, and the log is in doubt: only
     /// `open`, and what takes no store, may follow.
     pub fn open_gate<S: Store>(&mut self, store: &mut S) -> Result<u64, RecError>
         requires usable { self.old.in_doubt ≡ false }

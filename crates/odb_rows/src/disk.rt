@@ -1,4 +1,5 @@
-// The pair and the record log over a store in memory, crashed behind each call and with each call failing.
+// The pair and the record log over a store in memory, crashed behind each call of a put and of the adding of a record, and with
+// each of these calls failing.
 ghost use Rattle.std.specs.Prelude.{◌≡◌, ◌<◌, ◌≤◌, ◌^◌, false, length, IfOk, OnOk};
 ghost use Rattle.odb_device.specs.World.{file_of};
 ghost use Rattle.odb_device.specs.Images.{EachImage};

@@ -8,5 +8,6 @@ use Rattle.odb_reclog.proofs.plain.end_of_record.Goals as goal
 pub returns-clause-next : goal.returns-clause-next
 returns-clause-next c =
     let place = c.args.place in
-    c.end_of_record.ensures.end ∙ ap (λ (h : Head). if is_record_head c.args.end c.args.number place h then Some (place + 13 + h.size) else None)
+    c.end_of_record.ensures.end
+    ∙ ap (λ (h : Head). if is_record_head c.args.end c.args.number place h then Some (place + 13 + h.size) else None)
     (head_of_part place (place + 13 - place) c.args.bytes.now c.from_bytes.result (omega arith) c.from_bytes.ensures)

@@ -8,7 +8,7 @@ use Rattle.odb_reclog.specs.Moments.{KeepsLists}
 use Rattle.odb_reclog.specs.Standing.{Log, IsLog, AreZero, Stands, list_of}
 use Rattle.odb_reclog.specs.Clearing.{ReadsZero}
 use Rattle.odb_reclog.proofs.Standing.{cleared_log}
-use Rattle.odb_reclog.proofs.Tails.{half_log, tail_run, tail_unwritten, half_stands, half_list, cleared_stands, cleared_list}
+use Rattle.odb_reclog.proofs.Tails.{half_log, tail_run, tail_unwritten, tail_untouched, half_stands, half_list, cleared_stands, cleared_list}
 use Rattle.odb_reclog.proofs.log.RecLog.clear_tail.Given.{Over}
 use Rattle.odb_reclog.proofs.log.RecLog.clear_tail.Goals.{After-clear_range}
 use Rattle.odb_reclog.proofs.log.RecLog.clear_tail.Goals as goal
@@ -49,6 +49,10 @@ module _ (g : Over) (c : After-clear_range g) where
   left_unwritten = tail_unwritten log w now touched c.requires.stands is_log some run untouched (g.met.S.Store.reads_image c.args.store.now log.file)
       (subst (λ (l : Log). l.touched ≡ false → (f : File) → file_of l.file w ≡ Some f → l.clear_from ≤ length f.bytes → AreZero (l.place + 1) l.clear_from f.bytes → touched ≡ false) c.self.view_is c.clear_range.ensures.unwritten)
 
+  left_untouched : log.touched ≡ false → IfSome (file_of log.file w) (λ f. AreZero (log.place + 1) log.end f.bytes → touched ≡ false)
+  left_untouched = tail_untouched log w now touched c.requires.stands is_log some run (g.met.S.Store.reads_image c.args.store.now log.file)
+      (subst (λ (l : Log). l.touched ≡ false → (f : File) → file_of l.file w ≡ Some f → l.clear_from ≤ length f.bytes → AreZero (l.place + 1) l.clear_from f.bytes → touched ≡ false) c.self.view_is c.clear_range.ensures.unwritten)
+
   -- after Ok
   abbrev IsZero : Log → Type 0
   IsZero l = ReadsZero (l.place + 1) l.clear_from (file_of l.file now)
@@ -73,6 +77,9 @@ returns-in_err-clear_range-clause-list g c =
 
 pub returns-in_err-clear_range-clause-unwritten : goal.returns-in_err-clear_range-clause-unwritten
 returns-in_err-clear_range-clause-unwritten g c = left_unwritten g (goal.at.returns-in_err-clear_range-clause-unwritten g c).After-clear_range
+
+pub returns-in_err-clear_range-clause-untouched : goal.returns-in_err-clear_range-clause-untouched
+returns-in_err-clear_range-clause-untouched g c = left_untouched g (goal.at.returns-in_err-clear_range-clause-untouched g c).After-clear_range
 
 pub returns-clause-run : goal.returns-clause-run
 returns-clause-run g c = left_run g (goal.at.returns-clause-run g c).After-clear_range

@@ -14,9 +14,13 @@ use Rattle.odb_reclog.proofs.log.RecLog.open.Goals.{After-close_end, After-max}
 
 -- whatever the closing answered
 run : (g : Over) (c : After-close_end g)
-    → Runs c.args.file (KeepsLists c.args.start c.args.end c.args.first c.args.start (c.args.end - c.args.start) (file_of c.args.file (g.S.Outside.world c.args.store.now))) (g.S.Outside.world c.args.store.now) (g.S.Outside.world c.close_end.new.store)
+    → Runs c.args.file
+    (KeepsLists c.args.start c.args.end c.args.first c.args.start (c.args.end - c.args.start)
+    (file_of c.args.file (g.S.Outside.world c.args.store.now))) (g.S.Outside.world c.args.store.now)
+    (g.S.Outside.world c.close_end.new.store)
 run g c =
-    open_run c.args.start c.args.end c.args.first c.args.start (c.args.end - c.args.start) c.args.file (g.S.Outside.world c.args.store.now) (g.S.Outside.world c.settle.new.store) (g.S.Outside.world c.close_end.new.store)
+    open_run c.args.start c.args.end c.args.first c.args.start (c.args.end - c.args.start) c.args.file (g.S.Outside.world c.args.store.now)
+    (g.S.Outside.world c.settle.new.store) (g.S.Outside.world c.close_end.new.store)
     (g.met.S.Store.reads_image c.args.store.now c.args.file) c.settle.ensures.run c.in_ok-found.ensures.kept c.close_end.ensures.run
 
 pub returns-in_err-close_end-clause-run : goal.returns-in_err-close_end-clause-run
@@ -56,10 +60,12 @@ in_range g c =
 
 -- what is left of the file
 left : (g : Over) (c : After-max g)
-    → file_of c.args.file (g.S.Outside.world c.close_end.new.store) ≡ option_map (closed_at c.in_ok-found.found.place c.args.end) (file_of c.args.file (g.S.Outside.world c.args.store.now))
+    → file_of c.args.file (g.S.Outside.world c.close_end.new.store) ≡ option_map (closed_at c.in_ok-found.found.place c.args.end)
+    (file_of c.args.file (g.S.Outside.world c.args.store.now))
 left g c =
     let f = c.args.file in
-    closes_kept c.in_ok-found.found.place c.args.end (file_of f (g.S.Outside.world c.args.store.now)) (file_of f (g.S.Outside.world c.settle.new.store)) (file_of f (g.S.Outside.world c.close_end.new.store))
+    closes_kept c.in_ok-found.found.place c.args.end (file_of f (g.S.Outside.world c.args.store.now))
+    (file_of f (g.S.Outside.world c.settle.new.store)) (file_of f (g.S.Outside.world c.close_end.new.store))
     c.in_ok-found.ensures.kept c.in_ok-close_end.ensures.closes
 
 pub returns-clause-closes : goal.returns-clause-closes
@@ -68,11 +74,13 @@ returns-clause-closes g c = left g c
 pub returns-clause-stands : goal.returns-clause-stands
 returns-clause-stands g c =
     let f = c.args.file in
-    open_stands (log g c) c.in_ok-found.found (in_range g c) refl refl (omega (arith, c.max.ensures)) (file_of f (g.S.Outside.world c.args.store.now)) (file_of f (g.S.Outside.world c.close_end.new.store)) (left g c)
+    open_stands (log g c) c.in_ok-found.found (in_range g c) refl refl (omega (arith, c.max.ensures))
+    (file_of f (g.S.Outside.world c.args.store.now)) (file_of f (g.S.Outside.world c.close_end.new.store)) (left g c)
     c.requires.long c.in_ok-found.ensures.end
 
 pub returns-clause-list : goal.returns-clause-list
 returns-clause-list g c =
     let f = c.args.file in
-    open_list (log g c) c.in_ok-found.found (in_range g c) refl refl (omega (arith, c.max.ensures)) (file_of f (g.S.Outside.world c.args.store.now)) (file_of f (g.S.Outside.world c.close_end.new.store)) (left g c)
+    open_list (log g c) c.in_ok-found.found (in_range g c) refl refl (omega (arith, c.max.ensures))
+    (file_of f (g.S.Outside.world c.args.store.now)) (file_of f (g.S.Outside.world c.close_end.new.store)) (left g c)
     c.requires.long c.in_ok-found.ensures.end

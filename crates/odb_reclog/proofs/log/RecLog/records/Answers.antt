@@ -10,20 +10,27 @@ use Rattle.odb_reclog.specs.contracts.log.RecLog.{the_view}
 use Rattle.odb_reclog.proofs.Recorded.{IsRecordIn, IsAsked, none_at_end, in_order, head_in_order, head_there, order_kept, record_found, next_found}
 use Rattle.odb_reclog.proofs.log.RecLog.records.Given.{Over}
 use Rattle.odb_reclog.proofs.log.RecLog.records.Goals as goal
-use Rattle.odb_reclog.proofs.log.RecLog.records.Goals.{After-self, After-end_from-next, then-head-via-then-head, then-head-via-else-head+then-head-self, then-head-via-else-head+else-head-self+then-next-self}
+use Rattle.odb_reclog.proofs.log.RecLog.records.Goals.{After-self, After-end_from-next, then-head-via-then-head, then-head-via-else-head+then-head-self, then-head-via-else-head+else-head-self+then-head-self-2, then-head-via-else-head+else-head-self+else-head-self-2+then-next-self}
 use Rattle.odb_reclog.specs.declared.head.Head.{Head}
 
 -- the log by its fields
-asked : (g : Over) (c : After-self g) → IsAsked (the_view c.self.inside) c.args.at (file_of c.self.inside.file (g.S.Outside.world c.args.store.now))
+asked : (g : Over) (c : After-self g)
+    → IsAsked (the_view c.self.inside) c.args.at (file_of c.self.inside.file (g.S.Outside.world c.args.store.now))
 asked g c =
     subst (λ (l : Log). IsAsked l c.args.at (file_of l.file (g.S.Outside.world c.args.store.now))) (sym c.self.view_is)
-    (record { stands = c.requires.stands; reads = g.met.S.Store.reads_image c.args.store.now c.args.self.now.file; place = c.requires.place; before = c.requires.within.1 })
+    (record {
+      stands = c.requires.stands;
+      reads = g.met.S.Store.reads_image c.args.store.now c.args.self.now.file;
+      place = c.requires.place;
+      before = c.requires.within.1;
+    })
 
 pub returns-then-at-self-clause-record : goal.returns-then-at-self-clause-record
 returns-then-at-self-clause-record g c =
     let w = g.S.Outside.world c.args.store.now in
     subst (λ (l : Log). IsRecordIn l c.args.at None (file_of l.file w)) c.self.view_is
-    (none_at_end (the_view c.self.inside) c.args.at (file_of c.self.inside.file w) (asked g (goal.at.returns-then-at-self-clause-record g c).After-self) c.if-at-self.true)
+    (none_at_end (the_view c.self.inside) c.args.at (file_of c.self.inside.file w)
+    (asked g (goal.at.returns-then-at-self-clause-record g c).After-self) c.if-at-self.true)
 
 pub returns-in_default-clause-record : goal.returns-in_default-clause-record
 returns-in_default-clause-record g c =
@@ -32,10 +39,12 @@ returns-in_default-clause-record g c =
     let log = the_view c.self.inside in
     let order = in_order log c.args.at o (asked g (goal.at.returns-in_default-clause-record g c).After-self) c.if-at-self.false in
     let head = head_in_order log c.args.at o c.in_ok-head.field-0 order c.in_ok-head.ensures.head in
-    subst (λ (l : Log). IsRecordIn l c.args.at None (file_of l.file w)) c.self.view_is (head_there log c.args.at o c.in_ok-head.field-0 head c.in_default.is)
+    subst (λ (l : Log). IsRecordIn l c.args.at None (file_of l.file w)) c.self.view_is
+    (head_there log c.args.at o c.in_ok-head.field-0 head c.in_default.is)
 
 -- the head that was read
-head_read : (g : Over) (c : After-end_from-next g) → IsAsked (the_view c.self.inside) c.args.at (file_of c.self.inside.file (g.S.Outside.world c.args.store.now))
+head_read : (g : Over) (c : After-end_from-next g)
+    → IsAsked (the_view c.self.inside) c.args.at (file_of c.self.inside.file (g.S.Outside.world c.args.store.now))
     → IfSome (file_of c.self.inside.file (g.S.Outside.world c.args.store.now)) (λ f. Some c.in-Some.head ≡ Some (head_at c.args.at f.bytes))
 head_read g c a =
     let o = file_of c.self.inside.file (g.S.Outside.world c.args.store.now) in
@@ -50,13 +59,16 @@ returns-then-head-clause-record g c =
     let log = the_view c.self.inside in
     let head = c.in-Some.head in
     let a = asked g (goal.at.returns-then-head-clause-record g c).After-self in
-    let broken : (head.gate ≢ OPEN) ⊎ (c.self.inside.next ≤ head.number) ⊎ (c.self.inside.place < c.args.at + HEAD + head.size) = elim c.then-head.branch [
+    let broken : (head.gate ≢ OPEN) ⊎ (head.number < c.self.inside.first) ⊎ (c.self.inside.next ≤ head.number) ⊎ (c.self.inside.place < c.args.at + HEAD + head.size) =
+    elim c.then-head.branch [
       | then-head-via-then-head s ↦ inl s.if-head.true
       | then-head-via-else-head+then-head-self s ↦ inr (inl s.if-head-self.true)
-      | then-head-via-else-head+else-head-self+then-next-self s ↦ inr (inr (omega (arith, s.if-next-self.true)))
+      | then-head-via-else-head+else-head-self+then-head-self-2 s ↦ inr (inr (inl s.if-head-self-2.true))
+      | then-head-via-else-head+else-head-self+else-head-self-2+then-next-self s ↦ inr (inr (inr (omega (arith, s.if-next-self.true))))
     ] in
     subst (λ (l : Log). IsRecordIn l c.args.at None (file_of l.file w)) c.self.view_is
-    (order_kept log c.args.at o head (in_order log c.args.at o a c.if-at-self.false) (head_read g (goal.at.returns-then-head-clause-record g c).After-end_from-next a) broken)
+    (order_kept log c.args.at o head (in_order log c.args.at o a c.if-at-self.false)
+    (head_read g (goal.at.returns-then-head-clause-record g c).After-end_from-next a) broken)
 
 pub returns-in-Some-2-clause-record : goal.returns-in-Some-2-clause-record
 returns-in-Some-2-clause-record g c =
@@ -66,9 +78,17 @@ returns-in-Some-2-clause-record g c =
     let head = c.in-Some.head in
     let a = asked g (goal.at.returns-in-Some-2-clause-record g c).After-self in
     let same = run_end c.self.inside.file (λ f. f ≡ o) w (g.S.Outside.world c.read_head.new.store) c.read_head.ensures.run in
-    let bytes = subst (λ (p : Option File). IfSome p (λ f. c.args.at + HEAD + head.size ≤ length f.bytes → c.in_ok-payload.field-0 ≡ Some (part (c.args.at + HEAD) head.size f.bytes))) same c.in_ok-payload.ensures.bytes in
-    let payload = subst (λ (p : Option (List ℕ)). IfSome o (λ f. c.args.at + HEAD + head.size ≤ length f.bytes → p ≡ Some (part (c.args.at + HEAD) head.size f.bytes))) c.in-Some-2.is bytes in
-    subst (λ (l : Log). IsRecordIn l c.args.at (Some (record { number = head.number; payload = c.in-Some-2.payload; next = c.end_from-next.result })) (file_of l.file w)) c.self.view_is
+    let bytes =
+    subst (λ (p : Option File). IfSome p
+    (λ f. c.args.at + HEAD + head.size ≤ length f.bytes
+    → c.in_ok-payload.field-0 ≡ Some (part (c.args.at + HEAD) head.size f.bytes))) same c.in_ok-payload.ensures.bytes in
+    let payload =
+    subst (λ (p : Option (List ℕ)). IfSome o
+    (λ f. c.args.at + HEAD + head.size ≤ length f.bytes → p ≡ Some (part (c.args.at + HEAD) head.size f.bytes))) c.in-Some-2.is
+    bytes in
+    subst (λ (l : Log). IsRecordIn l c.args.at
+    (Some (record { number = head.number; payload = c.in-Some-2.payload; next = c.end_from-next.result })) (file_of l.file w))
+    c.self.view_is
     (record_found log c.args.at o head c.in-Some-2.payload c.end_from-next.result (in_order log c.args.at o a c.if-at-self.false)
     (head_read g (goal.at.returns-in-Some-2-clause-record g c).After-end_from-next a) payload c.end_from-next.ensures)
 
@@ -79,5 +99,7 @@ returns-in-Some-2-clause-next g c =
     let log = the_view c.self.inside in
     let head = c.in-Some.head in
     let a = asked g (goal.at.returns-in-Some-2-clause-next g c).After-self in
-    subst (λ (l : Log). IfSome (file_of l.file w) (λ f. IsPlaceIn l.start (log_of l.start l.end l.first f.bytes) c.end_from-next.result)) c.self.view_is
-    (next_found log c.args.at o head c.end_from-next.result (in_order log c.args.at o a c.if-at-self.false) (head_read g (goal.at.returns-in-Some-2-clause-next g c).After-end_from-next a) c.end_from-next.ensures)
+    subst (λ (l : Log). IfSome (file_of l.file w) (λ f. IsPlaceIn l.start (log_of l.start l.end l.first f.bytes) c.end_from-next.result))
+    c.self.view_is
+    (next_found log c.args.at o head c.end_from-next.result (in_order log c.args.at o a c.if-at-self.false)
+    (head_read g (goal.at.returns-in-Some-2-clause-next g c).After-end_from-next a) c.end_from-next.ensures)
