@@ -1,7 +1,7 @@
 -- States that agree on the ranges that a statement reads give it the same meaning.
-use Rattle.std.proofs.Common.{◌≡◌, ℕ, Bool, true, false, ◌&&◌, ◌||◌, ◌==◌, not, cond, List, [], ◌∷◌, map, length, codes, is_some, refl, sym, ap, ◌∙◌, eq-eqb, Option, Some, None, slice_get, unwrap_or, if◌then◌else◌}
+use Rattle.std.proofs.Common.{◌≡◌, ℕ, Bool, true, false, ◌&&◌, ◌||◌, ◌==◌, not, cond, List, [], ◌∷◌, ◌++◌, map, length, codes, is_some, refl, sym, ap, ◌∙◌, eq-eqb, nat_lt, Option, Some, None, slice_get, unwrap_or, if◌then◌else◌}
 use Rattle.std.specs.List.{filter}
-use Rattle.odb_model.specs.declared.reply.Reply.TheVariants.{Done, Duplicate}
+use Rattle.odb_model.specs.declared.reply.Reply.TheVariants.{Done, Duplicate, TooManyWrites}
 use Rattle.std.specs.declared.cmp.Ordering.{Ordering}
 use Rattle.std.specs.declared.cmp.Ordering.TheVariants.{Less, Equal, Greater}
 use Rattle.std.specs.Ordering.{is_eq, is_lt, eq_by_cmp, ordering_reverse}
@@ -28,7 +28,7 @@ use Rattle.odb_model.specs.declared.statement.Statement.TheVariants.{Start, Comm
 use Rattle.odb_model.specs.State.{Place, State, place_cmp, place_of, changed, after_writes, is_in, is_in_any, AgreeOn, part_in, rows_of}
 use Rattle.odb_model.specs.Table.{Table, kv, table_of, is_named, in_columns, key_of}
 use Rattle.odb_model.specs.Truth.{truth_if, holds, compared, is_true, keeps}
-use Rattle.odb_model.specs.Meaning.{meaning, refused, selected, inserted, put_of, kept_rows, has_duplicate, told}
+use Rattle.odb_model.specs.Meaning.{meaning, refused, selected, inserted, put_of, kept_rows, has_duplicate, different, most_writes, told}
 use Rattle.odb_model.specs.Reads.{reads, whole, range_of, point_of, points_of, where_range, dictionary_row}
 use Rattle.odb_model.proofs.Replay.{get-changed_at, part_in-same}
 use Rattle.odb_model.proofs.Parts.{filter-map, rows_of-part}
@@ -159,10 +159,13 @@ has_duplicate-same (values ∷ tuples) s t same =
     ∙ ap (λ b. is_some (get t (place_of w)) || b) (has_duplicate-same tuples (changed s (place_of w) w.row) (changed t (place_of w) w.row)
     (λ q inside. get-changed-same s t (place_of w) w.row q (AgreeOn-tail (point_of kv values) (map (point_of kv) tuples) s t same q inside)))
 
-inserted-same : (b : Bool) (tuples : List (List Value)) (s t : State)
-    → AgreeOn (points_of (if b then Some kv else None) tuples) s t → inserted (if b then Some kv else None) tuples s ≡ inserted (if b then Some kv else None) tuples t
-inserted-same true tuples s t same = ap (λ d. if d then refused Duplicate else record { reply = Done (length (map (put_of kv) tuples)); writes = map (put_of kv) tuples }) (has_duplicate-same tuples s t same)
-inserted-same false tuples s t same = refl
+inserted-same : (b : Bool) (tuples : List (List Value)) (s t : State) (written : List Place) → AgreeOn (points_of (if b then Some kv else None) tuples) s t
+    → inserted (if b then Some kv else None) tuples s written ≡ inserted (if b then Some kv else None) tuples t written
+inserted-same true tuples s t written same =
+    let ws : List Write = map (put_of kv) tuples in
+    ap (λ d. if d then refused Duplicate else if nat_lt most_writes (different (written ++ map place_of ws)) then refused TooManyWrites else record { reply = Done (length ws); writes = ws })
+    (has_duplicate-same tuples s t same)
+inserted-same false tuples s t written same = refl
 
 -- the ranges that a statement reads don't depend on the rows
 pub reads-same : (st : Statement) (s t : State) → reads st s ≡ reads st t
@@ -177,7 +180,7 @@ meaning-same Commit s t written same = refl
 meaning-same (Select what table f) s t written same =
     selected-same (is_named table (codes "KV")) what f s t (AgreeOn-tail (dictionary_row table) (where_range (table_of s table) f) s t same)
 meaning-same (Insert table tuples) s t written same =
-    inserted-same (is_named table (codes "KV")) tuples s t (AgreeOn-tail (dictionary_row table) (points_of (table_of s table) tuples) s t same)
+    inserted-same (is_named table (codes "KV")) tuples s t written (AgreeOn-tail (dictionary_row table) (points_of (table_of s table) tuples) s t same)
 
 -- the same writes keep states alike
 pub get-after_writes-same : (s t : State) (ws : List Write) (q : Place) → get s q ≡ get t q → get (after_writes s ws) q ≡ get (after_writes t ws) q

@@ -6,14 +6,14 @@ use Rattle.odb_model.specs.Script.{onto_first, parts_of, front_of, last_of, with
 use Rattle.odb_model.proofs.Replay.{or_false}
 
 -- the parts that an LF ends, and the part after the last LF
-abbrev Parts : Type 0
+abbrev pub Parts : Type 0
 Parts = List (List ℕ) × List ℕ
 
-abbrev cut : List ℕ → Parts
+abbrev pub cut : List ℕ → Parts
 cut bytes = (front_of (parts_of bytes), last_of (parts_of bytes))
 
 -- a byte in front of the first part
-abbrev in_front : ℕ → List (List ℕ) → List ℕ → Parts
+abbrev pub in_front : ℕ → List (List ℕ) → List ℕ → Parts
 in_front b [] last = ([], b ∷ last)
 in_front b (part ∷ parts) last = ((b ∷ part) ∷ parts, last)
 
@@ -45,7 +45,7 @@ cut-other b bytes other =
     ∙ sym (ap (λ parts. in_front b (front_of parts) (last_of parts)) rest.2)
 
 -- an empty part in front
-abbrev empty_first : Parts → Parts
+abbrev pub empty_first : Parts → Parts
 empty_first c = ([] ∷ c.0, c.1)
 
 cut-lf : (b : ℕ) (bytes : List ℕ) → (b == 10) ≡ true → cut (b ∷ bytes) ≡ empty_first (cut bytes)
@@ -110,3 +110,77 @@ ended_lines-ended bytes = ap (λ c. map without_cr c.0) (cut-ended bytes) ∙ ma
 
 pub open_line-ended : (bytes : List ℕ) → open_line (bytes ++ 10 ∷ []) ≡ []
 open_line-ended bytes = ap (λ c. c.1) (cut-ended bytes)
+
+-- a byte in front leaves an open line
+last_none : (b : ℕ) (parts : List (List ℕ)) (last : List ℕ) → (in_front b parts last).1 ≡ [] → last ≡ []
+last_none b [] last none = cc
+last_none b (part ∷ parts) last none = none
+
+in_front-append : (b : ℕ) (parts more : List (List ℕ)) (last end : List ℕ) → (in_front b parts last).1 ≡ []
+    → (in_front b (parts ++ more) end).0 ≡ (in_front b parts last).0 ++ more
+in_front-append b [] more last end none = cc
+in_front-append b (part ∷ parts) more last end none = refl
+
+-- bytes whose last line is ended have their own lines before those that follow
+pub ended-append : (bytes more : List ℕ) → (cut bytes).1 ≡ [] → (cut (bytes ++ more)).0 ≡ (cut bytes).0 ++ (cut more).0
+ended-append [] more none = refl
+ended-append (b ∷ bytes) more none =
+    elim (b == 10) as (λ c. (b == 10) ≡ c → (cut (b ∷ bytes ++ more)).0 ≡ (cut (b ∷ bytes)).0 ++ (cut more).0) [
+      | true ↦ λ same.
+          let ended : (cut bytes).1 ≡ [] = sym (ap (λ c. c.1) (cut-lf b bytes same)) ∙ none in
+          ap (λ c. c.0) (cut-lf b (bytes ++ more) same) ∙ ap (λ parts. [] ∷ parts) (ended-append bytes more ended)
+          ∙ sym (ap (λ c. c.0 ++ (cut more).0) (cut-lf b bytes same))
+      | false ↦ λ other.
+          let unended : (in_front b (cut bytes).0 (cut bytes).1).1 ≡ [] = sym (ap (λ c. c.1) (cut-other b bytes other)) ∙ none in
+          ap (λ c. c.0) (cut-other b (bytes ++ more) other)
+          ∙ ap (λ parts. (in_front b parts (cut (bytes ++ more)).1).0) (ended-append bytes more (last_none b (cut bytes).0 (cut bytes).1 unended))
+          ∙ in_front-append b (cut bytes).0 (cut more).0 (cut bytes).1 (cut (bytes ++ more)).1 unended
+          ∙ sym (ap (λ c. c.0 ++ (cut more).0) (cut-other b bytes other))
+    ] refl
+
+in_front-open : (b : ℕ) (parts more : List (List ℕ)) (last end : List ℕ) → (in_front b parts last).1 ≡ [] → (in_front b (parts ++ more) end).1 ≡ end
+in_front-open b [] more last end none = cc
+in_front-open b (part ∷ parts) more last end none = refl
+
+-- and then what is open is open in what follows
+pub open_line-append : (bytes more : List ℕ) → open_line bytes ≡ [] → open_line (bytes ++ more) ≡ open_line more
+open_line-append [] more none = refl
+open_line-append (b ∷ bytes) more none =
+    elim (b == 10) as (λ c. (b == 10) ≡ c → (cut (b ∷ bytes ++ more)).1 ≡ (cut more).1) [
+      | true ↦ λ same.
+          let ended : (cut bytes).1 ≡ [] = sym (ap (λ c. c.1) (cut-lf b bytes same)) ∙ none in
+          ap (λ c. c.1) (cut-lf b (bytes ++ more) same) ∙ open_line-append bytes more ended
+      | false ↦ λ other.
+          let unended : (in_front b (cut bytes).0 (cut bytes).1).1 ≡ [] = sym (ap (λ c. c.1) (cut-other b bytes other)) ∙ none in
+          let ended : (cut bytes).1 ≡ [] = last_none b (cut bytes).0 (cut bytes).1 unended in
+          ap (λ c. c.1) (cut-other b (bytes ++ more) other)
+          ∙ ap (λ parts. (in_front b parts (cut (bytes ++ more)).1).1) (ended-append bytes more ended)
+          ∙ in_front-open b (cut bytes).0 (cut more).0 (cut bytes).1 (cut (bytes ++ more)).1 unended
+          ∙ open_line-append bytes more ended
+    ] refl
+
+in_front-front : (b : ℕ) (parts more : List (List ℕ)) (last end : List ℕ) → (rest : List (List ℕ)) × ((in_front b (parts ++ more) end).0 ≡ (in_front b parts last).0 ++ rest)
+in_front-front b [] more last end = ((in_front b more end).0, refl)
+in_front-front b (part ∷ parts) more last end = (more, refl)
+
+-- the lines of a front are the first ones
+pub ended-front : (bytes more : List ℕ) → (rest : List (List ℕ)) × ((cut (bytes ++ more)).0 ≡ (cut bytes).0 ++ rest)
+ended-front [] more = ((cut more).0, refl)
+ended-front (b ∷ bytes) more =
+    let here = ended-front bytes more in
+    elim (b == 10) as (λ c. (b == 10) ≡ c → (rest : List (List ℕ)) × ((cut (b ∷ bytes ++ more)).0 ≡ (cut (b ∷ bytes)).0 ++ rest)) [
+      | true ↦ λ same. (
+        here.0,
+        ap (λ c. c.0) (cut-lf b (bytes ++ more) same) ∙ ap (λ parts. [] ∷ parts) here.1 ∙ sym (ap (λ c. c.0 ++ here.0) (cut-lf b bytes same)),
+      )
+      | false ↦ λ other.
+          let step = in_front-front b (cut bytes).0 here.0 (cut bytes).1 (cut (bytes ++ more)).1 in (
+            step.0,
+            ap (λ c. c.0) (cut-other b (bytes ++ more) other) ∙ ap (λ parts. (in_front b parts (cut (bytes ++ more)).1).0) here.1 ∙ step.1
+                ∙ sym (ap (λ c. c.0 ++ step.0) (cut-other b bytes other)),
+          )
+    ] refl
+
+-- one line
+pub ended-one : (line : List ℕ) → HasNoLf line → (cut (line ++ 10 ∷ [])).0 ≡ line ∷ []
+ended-one line none = ap (λ c. c.0) (cut-ended line) ∙ ap (λ c. c.0 ++ c.1 ∷ []) (plain_part line none)

@@ -5,3 +5,7 @@ pub mod Own
 pub mod Runs
 pub mod Cut
 pub mod Fronts
+pub mod Keys
+pub mod Stored
+pub mod Decimal
+pub mod Told

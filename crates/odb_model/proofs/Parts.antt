@@ -2,7 +2,7 @@
 use Rattle.std.proofs.Common.{◌≡◌, ℕ, Bool, true, false, ◌&&◌, ◌==◌, cond, List, [], ◌∷◌, map, refl, sym, ap, ◌∙◌, None}
 use Rattle.std.specs.List.{filter}
 use Rattle.std.specs.declared.cmp.Ordering.TheVariants.{Equal}
-use Rattle.std.specs.FinMap.{retain_keys, entries, entries_sorted, get-entries, get-retain_keys}
+use Rattle.std.specs.FinMap.{FinMap, retain_keys, entries, entries_sorted, get-entries, get-retain_keys}
 use Rattle.std.specs.FinMap.Entries.{same_entries, is_sorted-where_key, find-where_key}
 use Rattle.odb_values.specs.declared.value.Value.{Value}
 use Rattle.odb_values.specs.declared.range.Range.{Range}
@@ -35,7 +35,7 @@ module _ {A : Type 0} (p q : A → Bool) (same : (x : A) → p x ≡ q x) where
   filter-same (x ∷ xs) = ap (λ b. cond b (x ∷ filter p xs) (filter p xs)) (same x) ∙ ap (λ r. cond (q x) (x ∷ r) r) (filter-same xs)
 
 -- the entries whose keys pass a test are a filter of all entries
-pub entries-retain_keys : (s : State) (p : Place → Bool) → entries (retain_keys s p) ≡ filter (λ e. p e.0) (entries s)
+pub entries-retain_keys : {X : Type 0} (s : FinMap place_cmp X) (p : Place → Bool) → entries (retain_keys s p) ≡ filter (λ e. p e.0) (entries s)
 entries-retain_keys s p =
     let alike : (q x : Place) → place_cmp q x ≡ Equal → p x ≡ p q = λ q x tied. ap p (sym (place_cmp_exact q x tied)) in
     same_entries place_cmp place_cmp_total place_cmp_exact _ _ (entries_sorted (retain_keys s p)) (is_sorted-where_key place_cmp p (entries s) (entries_sorted s))

@@ -1,5 +1,5 @@
 -- Each transaction that a run commits is serial.
-use Rattle.std.proofs.Common.{◌≡◌, ◌≢◌, ℕ, ◌+◌, ◌-◌, ◌≤◌, Bool, true, false, ◌==◌, cond, List, [], ◌∷◌, ◌++◌, map, length, take, codes, refl, sym, ap, subst, ◌∙◌, Option, Some, None, arith, length-append, inl, inr}
+use Rattle.std.proofs.Common.{◌≡◌, ◌≢◌, nat_lt, ℕ, ◌+◌, ◌-◌, ◌≤◌, Bool, true, false, ◌==◌, cond, List, [], ◌∷◌, ◌++◌, map, length, take, codes, refl, sym, ap, subst, ◌∙◌, Option, Some, None, arith, length-append, inl, inr}
 use Rattle.std.specs.Prelude.{slice_get, MatchBool, MatchOption, IsSomeAnd}
 use Rattle.std.proofs.lemmas.List.{take-append-le}
 use Rattle.std.proofs.Math.Seq.{take-append_seam, take-length}
@@ -9,35 +9,37 @@ use Rattle.odb_model.specs.declared.event.Event.TheVariants.{Session as OfSessio
 use Rattle.odb_model.specs.declared.reply.Head.{Head}
 use Rattle.odb_model.specs.declared.reply.Head.TheVariants.{Session}
 use Rattle.odb_model.specs.declared.reply.Reply.{Reply}
-use Rattle.odb_model.specs.declared.reply.Reply.TheVariants.{Okay, Rows, Done, Committed, Ended, NotYet, NoTransaction, InTransaction, Duplicate, Conflict, Memory}
+use Rattle.odb_model.specs.declared.reply.Reply.TheVariants.{Okay, Rows, Done, Committed, Ended, InDoubt, NotYet, NoTransaction, InTransaction, Duplicate, TooManyWrites, Halted, Conflict, Full, Fault, Memory}
 use Rattle.odb_values.specs.declared.value.Value.{Value}
 use Rattle.odb_model.specs.declared.statement.What.{What}
 use Rattle.odb_model.specs.declared.statement.What.TheVariants.{Columns}
 use Rattle.odb_model.specs.declared.statement.Statement.{Statement}
 use Rattle.odb_model.specs.declared.statement.Statement.TheVariants.{Start, Commit, Select, Insert}
-use Rattle.odb_model.specs.State.{Place, State, after_writes, replay, IsNumberedFrom, IsHistory}
+use Rattle.odb_model.specs.State.{Place, State, place_of, after_writes, replay, IsNumberedFrom, IsHistory}
 use Rattle.odb_model.specs.Table.{Column, is_named, kv}
-use Rattle.odb_model.specs.Meaning.{Meaning, meaning, told, kept_rows, selected, inserted, put_of, has_duplicate, refused, is_built}
+use Rattle.odb_model.specs.Meaning.{Meaning, meaning, told, kept_rows, selected, inserted, put_of, has_duplicate, different, most_writes, refused, is_built}
 use Rattle.odb_model.specs.Transaction.{Exchange, statements_of, places, open_meaning, open_reply, own_from, own_writes, net, alone, reads_of, conflict}
-use Rattle.odb_model.specs.Machine.{Machine, first_machine, with_session, with_entry, exchange_now, net_of, Starts, Executes, Commits, Refuses, Runs, Step}
+use Rattle.odb_model.specs.Machine.{Side, Machine, first_machine, with_session, with_entry, in_doubt_of, exchange_now, net_of, Starts, Executes, Decides, DecidesBy, Commits, Refuses, Runs, Step}
 use Rattle.odb_model.specs.Serial.{IsSerial, HasOpenReplies, SessionIsFaithful, IsFaithful}
 use Rattle.odb_model.specs.Script.{IsRefused}
 use Rattle.odb_model.specs.Play.{Answer, IsAnswer, IsRun, CommitsSerially, AllSerial}
 use Rattle.odb_model.proofs.Own.{no_conflict, DoesAlone, does_alone}
 
--- what a statement are_meant on rows
+-- the replies that a statement's meaning may have
 unfoldable pub is_meant : Reply → Bool
 is_meant Okay = true
 is_meant (Rows rows) = true
 is_meant (Done n) = true
 is_meant NotYet = true
 is_meant Duplicate = true
+is_meant TooManyWrites = true
 is_meant reply = false
 
-put_is_meant : (s : State) (ws : List Write) (b : Bool) → is_meant (cond b (refused Duplicate) (record { reply = Done (length ws); writes = ws })).reply ≡ true
+put_is_meant : (ws : List Write) (b c : Bool) → is_meant (cond b (refused Duplicate) (cond c (refused TooManyWrites) (record { reply = Done (length ws); writes = ws }))).reply ≡ true
 unfolding is_meant
-put_is_meant s ws true = refl
-put_is_meant s ws false = refl
+put_is_meant ws true c = refl
+put_is_meant ws false true = refl
+put_is_meant ws false false = refl
 
 told_is_meant : (columns : List Column) (what : What) (rows : List (List Value)) → is_meant (told columns what rows) ≡ true
 unfolding is_meant
@@ -48,8 +50,8 @@ unfolding is_meant
 are_meant Start s written = refl
 are_meant Commit s written = refl
 are_meant (Select what table f) s written = elim (is_named table (codes "KV")) as (λ b. is_meant (selected (cond b (Some kv) None) what f s).reply ≡ true) [ true ↦ told_is_meant kv.columns what (kept_rows kv f s) | false ↦ refl ]
-are_meant (Insert table tuples) s written = elim (is_named table (codes "KV")) as (λ b. is_meant (inserted (cond b (Some kv) None) tuples s).reply ≡ true) [
-  | true ↦ put_is_meant s (map (put_of kv) tuples) (has_duplicate s (map (put_of kv) tuples))
+are_meant (Insert table tuples) s written = elim (is_named table (codes "KV")) as (λ b. is_meant (inserted (cond b (Some kv) None) tuples s written).reply ≡ true) [
+  | true ↦ put_is_meant (map (put_of kv) tuples) (has_duplicate s (map (put_of kv) tuples)) (nat_lt most_writes (different (written ++ map place_of (map (put_of kv) tuples))))
   | false ↦ refl
 ]
 
@@ -109,8 +111,14 @@ faithful_entry m s writes faithful =
       sessions = λ q. session_more m.history (e ∷ []) ((with_session m s None).sessions q) (idle.sessions q);
     }
 
-pub faithful_first : (h : List Entry) → IsHistory h → IsFaithful (first_machine h)
-faithful_first h numbered = record { history = numbered; sessions = λ q. tt }
+-- an entry in doubt is no part of the history
+faithful_in_doubt : (m : Machine) (s : ℕ) (writes : List Write) → IsFaithful m → IsFaithful (in_doubt_of m s writes)
+faithful_in_doubt m s writes faithful =
+    let idle : IsFaithful (with_session m s None) = faithful_with m s None tt faithful in
+    record { history = faithful.history; sessions = idle.sessions }
+
+pub faithful_first : (side : Side) (h : List Entry) → IsHistory h → IsFaithful (first_machine side h)
+faithful_first side h numbered = record { history = numbered; sessions = λ q. tt }
 
 moved : (m n : Machine) → n ≡ m → IsFaithful m → IsFaithful n
 moved m n e f = let P : Machine → Type 0 = λ x. IsFaithful x in subst P (sym e) f
@@ -134,26 +142,37 @@ faithful_executes m s st None NoTransaction after e f step = moved m after step 
 faithful_executes m s st None reply after e f step = absurd step
 faithful_executes m s st (Some t) reply after e f step = moved _ after step.1 (faithful_exchange m s st t e f)
 
-faithful_commits : (m : Machine) (s : ℕ) (o : Option (List Exchange)) (reply : Reply) (after : Machine) → IsFaithful m → Commits m s o reply after → IsFaithful after
-faithful_commits m s None NoTransaction after f step = moved m after step f
-faithful_commits m s (Some t) (Conflict j) after f step = moved _ after step.1 (faithful_with m s None tt f)
-faithful_commits m s (Some t) (Ended p) after f step = moved _ after step.3 (faithful_with m s None tt f)
-faithful_commits m s (Some t) (Committed k) after f step = moved _ after step.3 (faithful_entry m s (net_of m t) f)
-faithful_commits m s None Memory after f step = moved m after step f
-faithful_commits m s (Some t) Memory after f step = moved m after step f
-faithful_commits m s None reply after f step = absurd step
-faithful_commits m s (Some t) reply after f step = absurd step
+faithful_decides : (m : Machine) (s : ℕ) (risen : ℕ → Bool) (t : List Exchange) (reply : Reply) (after : Machine) → IsFaithful m → Decides m s risen t reply after → IsFaithful after
+faithful_decides m s risen t (Conflict j) after f step = moved _ after step.1 (faithful_with m s None tt f)
+faithful_decides m s risen t (Ended p) after f step = moved _ after step.3 (faithful_with m s None tt f)
+faithful_decides m s risen t (Full need room) after f step = moved m after step.4 f
+faithful_decides m s risen t (Fault file) after f step = moved m after step.4 f
+faithful_decides m s risen t (InDoubt k) after f step = moved _ after step.4 (faithful_in_doubt m s (net_of m t) f)
+faithful_decides m s risen t (Committed k) after f step = moved _ after step.3 (faithful_entry m s (net_of m t) f)
+faithful_decides m s risen t reply after f step = absurd step
+
+faithful_decides_by : (d : Option Entry) (m : Machine) (s : ℕ) (risen : ℕ → Bool) (t : List Exchange) (reply : Reply) (after : Machine) → IsFaithful m → DecidesBy d m s risen t reply after → IsFaithful after
+faithful_decides_by None m s risen t reply after f step = faithful_decides m s risen t reply after f step
+faithful_decides_by (Some e) m s risen t (Halted k) after f step = moved m after step.1 f
+faithful_decides_by (Some e) m s risen t reply after f step = absurd step
+
+faithful_commits : (m : Machine) (s : ℕ) (risen : ℕ → Bool) (o : Option (List Exchange)) (reply : Reply) (after : Machine) → IsFaithful m → Commits m s risen o reply after → IsFaithful after
+faithful_commits m s risen None NoTransaction after f step = moved m after step f
+faithful_commits m s risen None Memory after f step = moved m after step f
+faithful_commits m s risen (Some t) Memory after f step = moved m after step f
+faithful_commits m s risen None reply after f step = absurd step
+faithful_commits m s risen (Some t) reply after f step = faithful_decides_by m.in_doubt m s risen t reply after f step
 
 faithful_refuses : (m : Machine) (reply : Reply) (after : Machine) → IsFaithful m → Refuses m reply after → IsFaithful after
 faithful_refuses m NotYet after f step = moved m after step f
 faithful_refuses m Memory after f step = moved m after step f
 faithful_refuses m reply after f step = absurd step
 
-faithful_runs : (m : Machine) (s : ℕ) (st : Statement) (reply : Reply) (after : Machine) → IsFaithful m → Runs m s st reply after → IsFaithful after
-faithful_runs m s Start reply after f step = faithful_starts m s (m.sessions s) reply after f step
-faithful_runs m s Commit reply after f step = faithful_commits m s (m.sessions s) reply after f step
-faithful_runs m s (Select what table w) reply after f step = faithful_executes m s (Select what table w) (m.sessions s) reply after refl f step
-faithful_runs m s (Insert table tuples) reply after f step = faithful_executes m s (Insert table tuples) (m.sessions s) reply after refl f step
+faithful_runs : (m : Machine) (s : ℕ) (risen : ℕ → Bool) (st : Statement) (reply : Reply) (after : Machine) → IsFaithful m → Runs m s risen st reply after → IsFaithful after
+faithful_runs m s risen Start reply after f step = faithful_starts m s (m.sessions s) reply after f step
+faithful_runs m s risen Commit reply after f step = faithful_commits m s risen (m.sessions s) reply after f step
+faithful_runs m s risen (Select what table w) reply after f step = faithful_executes m s (Select what table w) (m.sessions s) reply after refl f step
+faithful_runs m s risen (Insert table tuples) reply after f step = faithful_executes m s (Insert table tuples) (m.sessions s) reply after refl f step
 
 either : (b : Bool) (P Q R : Type 0) → (P → R) → (Q → R) → MatchBool b P Q → R
 either true P Q R f g h = f h
@@ -161,7 +180,7 @@ either false P Q R f g h = g h
 
 pub faithful_step : (m : Machine) (s : ℕ) (st : Statement) (risen : ℕ → Bool) (reply : Reply) (after : Machine) → IsFaithful m → Step m (OfSession s st) risen reply after → IsFaithful after
 faithful_step m s st risen reply after f step =
-    either (is_built st) (Runs m s st reply after) (Refuses m reply after) (IsFaithful after) (faithful_runs m s st reply after f) (faithful_refuses m reply after f) step
+    either (is_built st) (Runs m s risen st reply after) (Refuses m reply after) (IsFaithful after) (faithful_runs m s risen st reply after f) (faithful_refuses m reply after f) step
 
 -- what a transaction that commits does alone at the history's end
 alone_now : (m : Machine) (s : ℕ) (t : List Exchange) → m.sessions s ≡ Some t → IsFaithful m → conflict m.history t ≡ None → DoesAlone m.history [] t
@@ -200,13 +219,29 @@ commits_at m s o (Committed k) after = MatchOption o (Unit {0}) (λ t. IsSerial 
 commits_at m s o (Ended p) after = MatchOption o (Unit {0}) (λ t. IsSerial t p after.history)
 commits_at m s o reply after = Unit {0}
 
-serial_commits : (m : Machine) (s : ℕ) (o : Option (List Exchange)) (reply : Reply) (after : Machine) → m.sessions s ≡ o → IsFaithful m → Commits m s o reply after → commits_at m s o reply after
+serial_decides : (m : Machine) (s : ℕ) (risen : ℕ → Bool) (t : List Exchange) (reply : Reply) (after : Machine) → m.sessions s ≡ Some t → IsFaithful m → Decides m s risen t reply after
+    → commits_at m s (Some t) reply after
 unfolding commits_at
-serial_commits m s (Some t) (Committed k) after e f step = serial_committed m s t k after.history (alone_now m s t e f step.0) step.2 (ap (λ x. x.history) step.3)
-serial_commits m s (Some t) (Ended p) after e f step = serial_ended m t p after.history (alone_now m s t e f step.0) step.1 step.2 (ap (λ x. x.history) step.3)
-serial_commits m s None (Committed k) after e f step = absurd step
-serial_commits m s None (Ended p) after e f step = absurd step
-serial_commits m s o reply after e f step = tt
+serial_decides m s risen t (Committed k) after e f step = serial_committed m s t k after.history (alone_now m s t e f step.0.0) step.2 (ap (λ x. x.history) step.3)
+serial_decides m s risen t (Ended p) after e f step = serial_ended m t p after.history (alone_now m s t e f step.0) step.1 step.2 (ap (λ x. x.history) step.3)
+serial_decides m s risen t reply after e f step = tt
+
+-- with an entry in doubt nothing is committed
+serial_decides_by : (d : Option Entry) (m : Machine) (s : ℕ) (risen : ℕ → Bool) (t : List Exchange) (reply : Reply) (after : Machine) → m.sessions s ≡ Some t → IsFaithful m
+    → DecidesBy d m s risen t reply after → commits_at m s (Some t) reply after
+unfolding commits_at
+serial_decides_by None m s risen t reply after e f step = serial_decides m s risen t reply after e f step
+serial_decides_by (Some x) m s risen t (Committed k) after e f step = absurd step
+serial_decides_by (Some x) m s risen t (Ended p) after e f step = absurd step
+serial_decides_by (Some x) m s risen t reply after e f step = tt
+
+serial_commits : (m : Machine) (s : ℕ) (risen : ℕ → Bool) (o : Option (List Exchange)) (reply : Reply) (after : Machine) → m.sessions s ≡ o → IsFaithful m → Commits m s risen o reply after → commits_at m s o reply after
+unfolding commits_at
+serial_commits m s risen None (Committed k) after e f step = absurd step
+serial_commits m s risen None (Ended p) after e f step = absurd step
+serial_commits m s risen None reply after e f step = tt
+serial_commits m s risen (Some t) Memory after e f step = tt
+serial_commits m s risen (Some t) reply after e f step = serial_decides_by m.in_doubt m s risen t reply after e f step
 
 serial_starts : (m : Machine) (s : ℕ) (o : Option (List Exchange)) (reply : Reply) (after : Machine) → Starts m s o reply after → commits_at m s o reply after
 unfolding commits_at
@@ -233,11 +268,11 @@ serial_refuses m s o (Committed k) after step = absurd step
 serial_refuses m s o (Ended p) after step = absurd step
 serial_refuses m s o reply after step = tt
 
-serial_runs : (m : Machine) (s : ℕ) (st : Statement) (reply : Reply) (after : Machine) → IsFaithful m → Runs m s st reply after → commits_at m s (m.sessions s) reply after
-serial_runs m s Start reply after f step = serial_starts m s (m.sessions s) reply after step
-serial_runs m s Commit reply after f step = serial_commits m s (m.sessions s) reply after refl f step
-serial_runs m s (Select what table w) reply after f step = serial_executes m s (Select what table w) (m.sessions s) reply after step
-serial_runs m s (Insert table tuples) reply after f step = serial_executes m s (Insert table tuples) (m.sessions s) reply after step
+serial_runs : (m : Machine) (s : ℕ) (risen : ℕ → Bool) (st : Statement) (reply : Reply) (after : Machine) → IsFaithful m → Runs m s risen st reply after → commits_at m s (m.sessions s) reply after
+serial_runs m s risen Start reply after f step = serial_starts m s (m.sessions s) reply after step
+serial_runs m s risen Commit reply after f step = serial_commits m s risen (m.sessions s) reply after refl f step
+serial_runs m s risen (Select what table w) reply after f step = serial_executes m s (Select what table w) (m.sessions s) reply after step
+serial_runs m s risen (Insert table tuples) reply after f step = serial_executes m s (Insert table tuples) (m.sessions s) reply after step
 
 as_told : (m : Machine) (s : ℕ) (reply : Reply) (after : Machine) → commits_at m s (m.sessions s) reply after → CommitsSerially m (Session s) reply after
 unfolding commits_at
@@ -247,8 +282,8 @@ as_told m s reply after c = tt
 
 pub serial_step : (m : Machine) (s : ℕ) (st : Statement) (risen : ℕ → Bool) (reply : Reply) (after : Machine) → IsFaithful m → Step m (OfSession s st) risen reply after → CommitsSerially m (Session s) reply after
 serial_step m s st risen reply after f step =
-    as_told m s reply after (either (is_built st) (Runs m s st reply after) (Refuses m reply after) (commits_at m s (m.sessions s) reply after)
-    (serial_runs m s st reply after f) (serial_refuses m s (m.sessions s) reply after) step)
+    as_told m s reply after (either (is_built st) (Runs m s risen st reply after) (Refuses m reply after) (commits_at m s (m.sessions s) reply after)
+    (serial_runs m s risen st reply after f) (serial_refuses m s (m.sessions s) reply after) step)
 
 serial_refused : (line : List ℕ) (m : Machine) (head : Head) (reply : Reply) (after : Machine) → IsRefused line head reply → CommitsSerially m head reply after
 serial_refused line m (Session s) (Committed k) after refusal = absurd refusal

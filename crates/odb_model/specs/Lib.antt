@@ -9,9 +9,12 @@ pub mod Truth
 pub mod Meaning
 pub mod Reads
 pub mod Transaction
+pub mod Width
+pub mod Storable
 pub mod Machine
 pub mod Serial
 pub mod Print
 pub mod Script
+pub mod Told
 pub mod Play
 pub mod Status

@@ -1,28 +1,49 @@
--- The machine: one history and 64 sessions. A step is a relation by cases on the event and the reply.
-use Rattle.std.specs.Prelude.{◌≡◌, ◌≢◌, ℕ, ◌+◌, ◌==◌, Bool, MatchBool, List, [], ◌∷◌, ◌++◌, length, Option, Some, None, if◌then◌else◌}
+-- The machine: one history, 64 sessions and the log of commits. A step is a relation by cases on the event and the reply.
+use Rattle.std.specs.Prelude.{◌≡◌, ◌≢◌, ℕ, ◌+◌, ◌-◌, ◌<◌, ◌≤◌, ◌==◌, Bool, true, MatchBool, List, [], ◌∷◌, ◌++◌, length, drop, Option, Some, None, if◌then◌else◌}
 use Rattle.odb_model.specs.declared.write.Write.{Write}
 use Rattle.odb_model.specs.declared.entry.Entry.{Entry}
 use Rattle.odb_model.specs.declared.event.Event.{Event}
 use Rattle.odb_model.specs.declared.event.Event.TheVariants.{Session}
 use Rattle.odb_model.specs.declared.reply.Reply.{Reply}
-use Rattle.odb_model.specs.declared.reply.Reply.TheVariants.{Okay, Committed, Ended, NotYet, NoTransaction, InTransaction, Conflict, Memory}
+use Rattle.odb_model.specs.declared.reply.Reply.TheVariants.{Okay, Committed, Ended, InDoubt, NotYet, NoTransaction, InTransaction, Halted, Conflict, Full, Fault, Memory}
 use Rattle.odb_model.specs.declared.statement.Statement.{Statement}
 use Rattle.odb_model.specs.declared.statement.Statement.TheVariants.{Start, Commit, Select, Insert}
 use Rattle.odb_model.specs.State.{replay}
 use Rattle.odb_model.specs.Meaning.{is_built}
 use Rattle.odb_model.specs.Transaction.{Exchange, open_reply, own_writes, net, conflict}
+use Rattle.odb_model.specs.Width.{record_width, records_width}
 
--- each session is idle, or in a transaction that has asked these statements
+-- the side of TRANSDB that takes new records: how many bytes it has, and the number of its first entry
+pub record Side : Type 0 where
+  pub size : ℕ
+  pub first : ℕ
+
+-- Each session is idle, or in a transaction that has asked these statements. An entry is in doubt where it isn't known whether its
+-- record is on the disk
 pub record Machine : Type 0 where
   pub history : List Entry
   pub sessions : ℕ → Option (List Exchange)
+  pub side : Side
+  pub in_doubt : Option Entry
 
--- the machine that begins with a history: all sessions are idle
-abbrev pub first_machine : List Entry → Machine
-first_machine h = record { history = h; sessions = λ _. None }
+-- the machine that begins with a history, whose entries from a number on stand on a side: all sessions are idle
+abbrev pub first_machine : Side → List Entry → Machine
+first_machine side h = record { history = h; sessions = λ _. None; side = side; in_doubt = None }
 
 abbrev pub with_session : Machine → ℕ → Option (List Exchange) → Machine
 with_session m s t = record m { sessions = λ q. if q == s then t else m.sessions q }
+
+-- the history, and the entry in doubt where there is one
+abbrev pub with_doubt : List Entry → Option Entry → List Entry
+with_doubt h None = h
+with_doubt h (Some e) = h ++ e ∷ []
+
+abbrev pub perhaps : Machine → List Entry
+perhaps m = with_doubt m.history m.in_doubt
+
+-- the bytes left for records on the side: each entry there, numbered from the side's first on, has its record
+abbrev pub room_of : Machine → ℕ
+room_of m = m.side.size - records_width (drop (m.side.first - 1) m.history)
 
 -- the statement with the reply that it gets now
 abbrev pub exchange_now : Machine → Statement → List Exchange → Exchange
@@ -32,10 +53,17 @@ exchange_now m st t = record { statement = st; reply = open_reply st (length m.h
 abbrev pub net_of : Machine → List Exchange → List Write
 net_of m t = net (replay m.history) (own_writes m.history t)
 
+-- what a transaction of this session would add to the history, with these writes
+abbrev pub next_entry : Machine → ℕ → List Write → Entry
+next_entry m s writes = record { number = length m.history + 1; by = s; writes = writes }
+
 -- the session is idle, and its transaction is the history's next entry
 abbrev pub with_entry : Machine → ℕ → List Write → Machine
-with_entry m s writes =
-    record (with_session m s None) { history = m.history ++ record { number = length m.history + 1; by = s; writes = writes } ∷ [] }
+with_entry m s writes = record (with_session m s None) { history = m.history ++ next_entry m s writes ∷ [] }
+
+-- the session is idle, and it isn't known whether its transaction is the history's next entry
+abbrev pub in_doubt_of : Machine → ℕ → List Write → Machine
+in_doubt_of m s writes = record (with_session m s None) { in_doubt = Some (next_entry m s writes) }
 
 -- START
 abbrev pub Starts : Machine → ℕ → Option (List Exchange) → Reply → Machine → Type 0
@@ -52,16 +80,41 @@ Executes m s st None reply after = ⊥
 Executes m s st (Some t) reply after =
     (reply ≡ (exchange_now m st t).reply) × (after ≡ with_session m s (Some (t ++ exchange_now m st t ∷ [])))
 
--- COMMIT
-abbrev pub Commits : Machine → ℕ → Option (List Exchange) → Reply → Machine → Type 0
-Commits m s None NoTransaction after = after ≡ m
-Commits m s (Some t) (Conflict j) after = (conflict m.history t ≡ Some j) × (after ≡ with_session m s None)
-Commits m s (Some t) (Ended p) after =
+-- the transaction conflicts with nothing, and leaves writes
+abbrev pub WantsEntry : Machine → List Exchange → Type 0
+WantsEntry m t = (conflict m.history t ≡ None) × (net_of m t ≢ [])
+
+-- the bytes of the record of its entry
+abbrev pub need_of : Machine → ℕ → List Exchange → ℕ
+need_of m s t = record_width (next_entry m s (net_of m t))
+
+-- COMMIT of a transaction where no entry is in doubt. FAULT and INDOUBT come only where the count of TRANSDB rose in the step
+abbrev pub Decides : Machine → ℕ → (ℕ → Bool) → List Exchange → Reply → Machine → Type 0
+Decides m s risen t (Conflict j) after = (conflict m.history t ≡ Some j) × (after ≡ with_session m s None)
+Decides m s risen t (Ended p) after =
     (conflict m.history t ≡ None) × (net_of m t ≡ []) × (p ≡ length m.history) × (after ≡ with_session m s None)
-Commits m s (Some t) (Committed k) after =
-    (conflict m.history t ≡ None) × (net_of m t ≢ []) × (k ≡ length m.history + 1) × (after ≡ with_entry m s (net_of m t))
-Commits m s t Memory after = after ≡ m
-Commits m s t reply after = ⊥
+Decides m s risen t (Full need room) after =
+    WantsEntry m t × (need ≡ need_of m s t) × (room ≡ room_of m) × (room < need) × (after ≡ m)
+Decides m s risen t (Fault f) after =
+    WantsEntry m t × (need_of m s t ≤ room_of m) × (f ≡ 0) × (risen 0 ≡ true) × (after ≡ m)
+Decides m s risen t (InDoubt k) after =
+    WantsEntry m t × (need_of m s t ≤ room_of m) × (k ≡ length m.history + 1) × (risen 0 ≡ true) × (after ≡ in_doubt_of m s (net_of m t))
+Decides m s risen t (Committed k) after =
+    WantsEntry m t × (need_of m s t ≤ room_of m) × (k ≡ length m.history + 1) × (after ≡ with_entry m s (net_of m t))
+Decides m s risen t reply after = ⊥
+
+-- COMMIT of a transaction: while an entry is in doubt it is refused
+abbrev pub DecidesBy : Option Entry → Machine → ℕ → (ℕ → Bool) → List Exchange → Reply → Machine → Type 0
+DecidesBy None m s risen t reply after = Decides m s risen t reply after
+DecidesBy (Some e) m s risen t (Halted k) after = (k ≡ e.number) × (after ≡ m)
+DecidesBy (Some e) m s risen t reply after = ⊥
+
+-- COMMIT
+abbrev pub Commits : Machine → ℕ → (ℕ → Bool) → Option (List Exchange) → Reply → Machine → Type 0
+Commits m s risen t Memory after = after ≡ m
+Commits m s risen None NoTransaction after = after ≡ m
+Commits m s risen None reply after = ⊥
+Commits m s risen (Some t) reply after = DecidesBy m.in_doubt m s risen t reply after
 
 -- a statement of a form that isn't built
 abbrev pub Refuses : Machine → Reply → Machine → Type 0
@@ -69,13 +122,12 @@ Refuses m NotYet after = after ≡ m
 Refuses m Memory after = after ≡ m
 Refuses m reply after = ⊥
 
-abbrev pub Runs : Machine → ℕ → Statement → Reply → Machine → Type 0
-Runs m s Start reply after = Starts m s (m.sessions s) reply after
-Runs m s Commit reply after = Commits m s (m.sessions s) reply after
-Runs m s (Select what table filter) reply after = Executes m s (Select what table filter) (m.sessions s) reply after
-Runs m s (Insert table tuples) reply after = Executes m s (Insert table tuples) (m.sessions s) reply after
+abbrev pub Runs : Machine → ℕ → (ℕ → Bool) → Statement → Reply → Machine → Type 0
+Runs m s risen Start reply after = Starts m s (m.sessions s) reply after
+Runs m s risen Commit reply after = Commits m s risen (m.sessions s) reply after
+Runs m s risen (Select what table filter) reply after = Executes m s (Select what table filter) (m.sessions s) reply after
+Runs m s risen (Insert table tuples) reply after = Executes m s (Insert table tuples) (m.sessions s) reply after
 
--- From m, an event in whose step the counts of these files rose may get this reply, and then leads to `after`.
--- No step of a form that is built uses a file yet
+-- From m, an event in whose step the counts of these files rose may get this reply, and then leads to `after`
 abbrev pub Step : Machine → Event → (ℕ → Bool) → Reply → Machine → Type 0
-Step m (Session s st) risen reply after = MatchBool (is_built st) (Runs m s st reply after) (Refuses m reply after)
+Step m (Session s st) risen reply after = MatchBool (is_built st) (Runs m s risen st reply after) (Refuses m reply after)

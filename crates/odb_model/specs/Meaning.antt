@@ -1,11 +1,11 @@
 -- What a statement means on a state: its reply and its writes, over the whole list of the table's rows.
-use Rattle.std.specs.Prelude.{Bool, true, false, ◌||◌, ◌&&◌, List, [], ◌∷◌, length, map, filter, codes, is_some, Option, Some, None, if◌then◌else◌}
-use Rattle.std.specs.FinMap.{get}
+use Rattle.std.specs.Prelude.{ℕ, Bool, true, false, ◌||◌, ◌&&◌, nat_lt, List, [], ◌∷◌, ◌++◌, length, map, filter, codes, is_some, Option, Some, None, if◌then◌else◌}
+use Rattle.std.specs.FinMap.{FinMap, empty, get, insert, entries}
 use Rattle.odb_values.specs.declared.value.Value.{Value}
 use Rattle.odb_values.specs.declared.value.Value.TheVariants.{Int}
 use Rattle.odb_model.specs.declared.write.Write.{Write}
 use Rattle.odb_model.specs.declared.reply.Reply.{Reply}
-use Rattle.odb_model.specs.declared.reply.Reply.TheVariants.{Okay, Rows, Done, NotYet, Duplicate}
+use Rattle.odb_model.specs.declared.reply.Reply.TheVariants.{Okay, Rows, Done, NotYet, Duplicate, TooManyWrites}
 use Rattle.odb_model.specs.declared.statement.What.{What}
 use Rattle.odb_model.specs.declared.statement.What.TheVariants.{Columns}
 use Rattle.odb_model.specs.declared.statement.Operand.TheVariants.{Column as ColumnOf, Literal}
@@ -14,7 +14,7 @@ use Rattle.odb_model.specs.declared.statement.Predicate.{Predicate}
 use Rattle.odb_model.specs.declared.statement.Predicate.TheVariants.{Test}
 use Rattle.odb_model.specs.declared.statement.Statement.{Statement}
 use Rattle.odb_model.specs.declared.statement.Statement.TheVariants.{Start, Commit, Select, Insert}
-use Rattle.odb_model.specs.State.{Place, State, place_of, changed, rows_of}
+use Rattle.odb_model.specs.State.{Place, State, place_cmp, place_of, changed, rows_of}
 use Rattle.odb_model.specs.Table.{Column, Table, table_of, is_named, in_columns, column_value, key_of, row_of}
 use Rattle.odb_model.specs.Truth.{keeps}
 
@@ -47,13 +47,28 @@ abbrev pub has_duplicate : State → List Write → Bool
 has_duplicate s [] = false
 has_duplicate s (w ∷ ws) = is_some (get s (place_of w)) || has_duplicate (changed s (place_of w) w.row) ws
 
--- an INSERT puts all of its tuples, or none where a key is there already
-abbrev pub put_all : State → List Write → Meaning
-put_all s writes = if has_duplicate s writes then refused Duplicate else record { reply = Done (length writes); writes = writes }
+abbrev pub all_of : FinMap place_cmp (Unit {0}) → List Place → FinMap place_cmp (Unit {0})
+all_of found [] = found
+all_of found (place ∷ places) = all_of (insert found place tt) places
 
-abbrev pub inserted : Option Table → List (List Value) → State → Meaning
-inserted None tuples s = refused NotYet
-inserted (Some t) tuples s = put_all s (map (put_of t) tuples)
+-- how many different places there are among these
+abbrev pub different : List Place → ℕ
+different places = length (entries (all_of empty places))
+
+-- the most keys that a transaction may write
+abbrev pub most_writes : ℕ
+most_writes = 4096
+
+-- An INSERT puts all of its tuples, or none: where a key is there already, or where the transaction would have written too many keys
+abbrev pub put_all : State → List Place → List Write → Meaning
+put_all s written writes =
+    if has_duplicate s writes then refused Duplicate
+    else if nat_lt most_writes (different (written ++ map place_of writes)) then refused TooManyWrites
+    else record { reply = Done (length writes); writes = writes }
+
+abbrev pub inserted : Option Table → List (List Value) → State → List Place → Meaning
+inserted None tuples s written = refused NotYet
+inserted (Some t) tuples s written = put_all s written (map (put_of t) tuples)
 
 -- the reply and the writes of a SELECT or an INSERT. START and COMMIT mean nothing on rows: the machine answers them.
 -- `written` has the places that the transaction has written so far
@@ -61,7 +76,7 @@ abbrev pub meaning : Statement → State → List Place → Meaning
 meaning Start s written = refused Okay
 meaning Commit s written = refused Okay
 meaning (Select what table filter_of) s written = selected (table_of s table) what filter_of s
-meaning (Insert table tuples) s written = inserted (table_of s table) tuples s
+meaning (Insert table tuples) s written = inserted (table_of s table) tuples s written
 
 abbrev is_k_alone : What → Bool
 is_k_alone (Columns []) = false

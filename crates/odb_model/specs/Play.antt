@@ -1,13 +1,13 @@
 -- A script played: each line with its answer, and what is said.
-use Rattle.std.specs.Prelude.{◌≡◌, ◌⊎◌, ◌≢◌, ℕ, ◌+◌, ◌-◌, ◌^◌, ◌≤◌, Bool, true, false, List, [], ◌∷◌, ◌++◌, flat_map, length, take, MatchOption}
+use Rattle.std.specs.Prelude.{◌≡◌, ◌⊎◌, ◌≢◌, ℕ, ◌+◌, ◌-◌, ◌^◌, ◌≤◌, ◌==◌, Bool, true, false, List, [], ◌∷◌, ◌++◌, flat_map, filter, length, take, MatchOption}
 use Rattle.odb_model.specs.declared.event.Event.TheVariants.{Session as OfSession}
 use Rattle.odb_model.specs.declared.reply.Head.{Head}
 use Rattle.odb_model.specs.declared.reply.Head.TheVariants.{Session}
 use Rattle.odb_model.specs.declared.reply.Reply.{Reply}
-use Rattle.odb_model.specs.declared.reply.Reply.TheVariants.{Committed, Ended}
+use Rattle.odb_model.specs.declared.reply.Reply.TheVariants.{Committed, Ended, InDoubt, Fault}
 use Rattle.odb_model.specs.declared.statement.Statement.{Statement}
 use Rattle.odb_model.specs.declared.status.Status.{Status}
-use Rattle.odb_model.specs.declared.status.Status.TheVariants.{Done, Usage, ReadFault, WriteFault, InputTooLong, NoMemory}
+use Rattle.odb_model.specs.declared.status.Status.TheVariants.{Done, Usage, ReadFault, WriteFault, FileFault, NoDatabase, Exists, Damaged, NotHeld, InputTooLong, NoMemory}
 use Rattle.odb_model.specs.Machine.{Machine, Step}
 use Rattle.odb_model.specs.Print.{reply_text}
 use Rattle.odb_model.specs.Script.{IsRequest, IsRefused, ended_lines, all_lines}
@@ -50,29 +50,45 @@ text_of_answer answer = reply_text answer.head answer.reply
 abbrev pub said_by : List Answer → List ℕ
 said_by answers = flat_map text_of_answer answers
 
--- a file's count rises in a step only where it rose in the whole call, as `rose` tells of each file
-abbrev pub RiseOnly : (ℕ → Type 0) → List Answer → Type 0
+-- a file's count rises in a step only where it rose in the whole call: `rose` tells of each file by how much it did at least
+abbrev pub RiseOnly : (ℕ → ℕ → Type 0) → List Answer → Type 0
 RiseOnly rose [] = Unit {0}
-RiseOnly rose (answer ∷ answers) = ((file : ℕ) → answer.risen file ≡ true → rose file) × RiseOnly rose answers
+RiseOnly rose (answer ∷ answers) = ((file : ℕ) → answer.risen file ≡ true → rose file 1) × RiseOnly rose answers
 
--- these are the answers to these lines from a machine on, and each transaction that they commit is serial
-pub record Plays (rose : ℕ → Type 0) (m : Machine) (lines : List (List ℕ)) (answers : List Answer) : Type 0 where
+-- the replies that tell of a fault of a file: FAULT with its number, and of TRANSDB, file 0, also INDOUBT
+abbrev pub tells_fault : ℕ → Reply → Bool
+tells_fault file (Fault f) = file == f
+tells_fault file (InDoubt k) = file == 0
+tells_fault file reply = false
+
+abbrev pub faults_told : ℕ → List Answer → ℕ
+faults_told file answers = length (filter (λ answer. tells_fault file answer.reply) answers)
+
+-- the machine after these answers
+abbrev pub machine_after : Machine → List Answer → Machine
+machine_after m [] = m
+machine_after m (answer ∷ answers) = machine_after answer.after answers
+
+-- These are the answers to these lines from a machine on, and each transaction that they commit is serial. Each reply that tells of
+-- a fault of a file is one by which its count rose
+pub record Plays (rose : ℕ → ℕ → Type 0) (m : Machine) (lines : List (List ℕ)) (answers : List Answer) : Type 0 where
   pub run : IsRun m lines answers
   pub serial : AllSerial m answers
   pub risen : RiseOnly rose answers
+  pub counted : (file : ℕ) → rose file (faults_told file answers)
 
 -- all of the lines are answered, and just the texts of the answers are said
-abbrev pub SaysAll : (ℕ → Type 0) → Machine → List (List ℕ) → List Answer → List ℕ → Type 0
+abbrev pub SaysAll : (ℕ → ℕ → Type 0) → Machine → List (List ℕ) → List Answer → List ℕ → Type 0
 SaysAll rose m lines answers output = Plays rose m lines answers × (output ≡ said_by answers)
 
 -- the first of the lines are answered, and just the texts of the answers are said, but for the last one's perhaps
-abbrev pub SaysSome : (ℕ → Type 0) → Machine → List (List ℕ) → List Answer → List ℕ → Type 0
+abbrev pub SaysSome : (ℕ → ℕ → Type 0) → Machine → List (List ℕ) → List Answer → List ℕ → Type 0
 SaysSome rose m lines answers output =
     (n : ℕ) × Plays rose m (take n lines) answers
     × (told : List Answer) × (untold : List Answer) × (answers ≡ told ++ untold) × (length untold ≤ 1) × (output ≡ said_by told)
 
 -- the first of the lines are answered, and a front of the texts of the answers is said, the last one's not wholly
-abbrev pub SaysPart : (ℕ → Type 0) → Machine → List (List ℕ) → List Answer → List ℕ → Type 0
+abbrev pub SaysPart : (ℕ → ℕ → Type 0) → Machine → List (List ℕ) → List Answer → List ℕ → Type 0
 SaysPart rose m lines answers output =
     (n : ℕ) × Plays rose m (take n lines) answers
     × (told : List Answer) × (last : Answer) × (front : List ℕ) × (rest : List ℕ)
@@ -89,7 +105,7 @@ most_input = 2 ^ 32
 
 -- What a script from machine m on answers and says, by the status, of the bytes taken in the call. `begun` and `ended`
 -- tell whether the end of the input was met before the call and at its end
-abbrev pub PlayEnds : (ℕ → Type 0) → Machine → Status → Bool → Bool → List ℕ → List Answer → List ℕ → Type 0
+abbrev pub PlayEnds : (ℕ → ℕ → Type 0) → Machine → Status → Bool → Bool → List ℕ → List Answer → List ℕ → Type 0
 PlayEnds rose m Done begun ended input answers output =
     (ended ≡ true) × (length input ≤ most_input) × SaysAll rose m (all_lines input) answers output
 PlayEnds rose m ReadFault begun ended input answers output =
@@ -101,3 +117,8 @@ PlayEnds rose m WriteFault begun ended input answers output =
 PlayEnds rose m NoMemory begun ended input answers output =
     (length input ≤ most_input) × SaysSome rose m (lines_so_far ended input) answers output
 PlayEnds rose m Usage begun ended input answers output = ⊥
+PlayEnds rose m (FileFault file) begun ended input answers output = ⊥
+PlayEnds rose m NoDatabase begun ended input answers output = ⊥
+PlayEnds rose m Exists begun ended input answers output = ⊥
+PlayEnds rose m (Damaged file at) begun ended input answers output = ⊥
+PlayEnds rose m (NotHeld bank mark first) begun ended input answers output = ⊥

@@ -6,7 +6,7 @@ use Rattle.odb_values.specs.declared.value.Value.TheVariants.{Null, Int, Text}
 use Rattle.odb_model.specs.declared.reply.Head.{Head}
 use Rattle.odb_model.specs.declared.reply.Head.TheVariants.{Session, Control, Unknown}
 use Rattle.odb_model.specs.declared.reply.Reply.{Reply}
-use Rattle.odb_model.specs.declared.reply.Reply.TheVariants.{Okay, Rows, Done, Committed, Ended, Line, NoSession, NotYet, NoTransaction, InTransaction, Duplicate, Conflict, Memory}
+use Rattle.odb_model.specs.declared.reply.Reply.TheVariants.{Okay, Rows, Done, Committed, Ended, InDoubt, Line, NoSession, NotYet, NoTransaction, InTransaction, Duplicate, TooManyWrites, Halted, Conflict, Full, Fault, Memory}
 
 abbrev pub head_text : Head → List ℕ
 head_text (Session s) = decimal s
@@ -46,11 +46,16 @@ reply_text head (Rows rows) = flat_map (row_line head) rows ++ line_of head (cod
 reply_text head (Done n) = line_of head (codes "DONE " ++ decimal n)
 reply_text head (Committed k) = line_of head (codes "COMMITTED " ++ decimal k)
 reply_text head (Ended p) = line_of head (codes "ENDED " ++ decimal p)
+reply_text head (InDoubt k) = line_of head (codes "INDOUBT " ++ decimal k)
 reply_text head Line = refused_line head (codes "LINE")
 reply_text head NoSession = refused_line head (codes "NOSESSION")
 reply_text head NotYet = refused_line head (codes "NOTYET")
 reply_text head NoTransaction = refused_line head (codes "NOTRANSACTION")
 reply_text head InTransaction = refused_line head (codes "INTRANSACTION")
 reply_text head Duplicate = refused_line head (codes "DUPLICATE")
+reply_text head TooManyWrites = refused_line head (codes "TOOMANYWRITES")
+reply_text head (Halted k) = refused_line head (codes "HALTED " ++ decimal k)
 reply_text head (Conflict j) = refused_line head (codes "CONFLICT " ++ decimal j)
+reply_text head (Full need room) = refused_line head (codes "FULL " ++ decimal need ++ codes " " ++ decimal room)
+reply_text head (Fault f) = refused_line head (codes "FAULT " ++ decimal f)
 reply_text head Memory = refused_line head (codes "MEMORY")

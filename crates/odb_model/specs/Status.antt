@@ -1,13 +1,18 @@
 -- The numbers and texts of the program's statuses.
-use Rattle.std.specs.Prelude.{ℕ, List, [], codes}
+use Rattle.std.specs.Prelude.{ℕ, List, [], ◌++◌, codes, decimal}
 use Rattle.odb_model.specs.declared.status.Status.{Status}
-use Rattle.odb_model.specs.declared.status.Status.TheVariants.{Done, Usage, ReadFault, WriteFault, InputTooLong, NoMemory}
+use Rattle.odb_model.specs.declared.status.Status.TheVariants.{Done, Usage, ReadFault, WriteFault, FileFault, NoDatabase, Exists, Damaged, NotHeld, InputTooLong, NoMemory}
 
 abbrev pub number_of : Status → ℕ
 number_of Done = 0
 number_of Usage = 2
 number_of ReadFault = 3
 number_of WriteFault = 4
+number_of (FileFault file) = 5
+number_of NoDatabase = 6
+number_of Exists = 7
+number_of (Damaged file at) = 8
+number_of (NotHeld bank mark first) = 9
 number_of InputTooLong = 10
 number_of NoMemory = 11
 
@@ -16,5 +21,11 @@ text_of Done = []
 text_of Usage = codes "optsql: usage"
 text_of ReadFault = codes "optsql: read fault"
 text_of WriteFault = codes "optsql: write fault"
+text_of (FileFault file) = codes "optsql: fault: file " ++ decimal file
+text_of NoDatabase = codes "optsql: no database"
+text_of Exists = codes "optsql: database exists"
+text_of (Damaged file at) = codes "optsql: damaged: file " ++ decimal file ++ codes " at " ++ decimal at
+text_of (NotHeld bank mark first) =
+    codes "optsql: not held: bank " ++ decimal bank ++ codes " mark " ++ decimal mark ++ codes " first " ++ decimal first
 text_of InputTooLong = codes "optsql: input too long"
 text_of NoMemory = codes "optsql: no memory"

@@ -1,12 +1,14 @@
 // The laws about the definitions, each the contract of a function with nothing to do.
-ghost use Rattle.std.specs.Prelude.{◌≡◌, ℕ, List, [], None};
+ghost use Rattle.std.specs.Prelude.{◌≡◌, ℕ, List, [], ◌++◌, None, IsTrue};
+ghost use Rattle.odb_model.specs.declared.write.Write.{Write};
 ghost use Rattle.odb_model.specs.declared.entry.Entry.{Entry};
 ghost use Rattle.odb_model.specs.declared.statement.Statement.{Statement};
 ghost use Rattle.odb_model.specs.State.{State, Place, AgreeOn, IsHistory, replay};
-ghost use Rattle.odb_model.specs.Meaning.{meaning};
+ghost use Rattle.odb_model.specs.Meaning.{meaning, is_built};
 ghost use Rattle.odb_model.specs.Reads.{reads};
-ghost use Rattle.odb_model.specs.Transaction.{Exchange, statements_of, replies_of, alone, conflict};
-ghost use Rattle.odb_model.specs.Machine.{Machine, first_machine};
+ghost use Rattle.odb_model.specs.Transaction.{Exchange, statements_of, replies_of, places, net, alone, conflict};
+ghost use Rattle.odb_model.specs.Machine.{Side, Machine, first_machine};
+ghost use Rattle.odb_model.specs.Storable.{AreStorable, IsStorableList};
 ghost use Rattle.odb_model.specs.Serial.{HasOpenReplies, IsFaithful};
 ghost use Rattle.odb_model.specs.Play.{Answer, IsRun, AllSerial};
 
@@ -27,6 +29,14 @@ pub fn answers_alone()
 /// Whatever lines are answered from a machine on whose open transactions have got their replies, each transaction that
 /// is committed is serial at its place. The first machine of a history is such a machine.
 pub fn runs_serially()
-    ensures first { (h : List Entry) → IsHistory h → IsFaithful (first_machine h) }
+    ensures first { (side : Side) (h : List Entry) → IsHistory h → IsFaithful (first_machine side h) }
     ensures serial { (m : Machine) (lines : List (List ℕ)) (answers : List Answer) → IsFaithful m → IsRun m lines answers → AllSerial m answers }
+{}
+
+/// A transaction's writes are always such that what they leave can be stored as one entry: at most 4,096 writes in ascending order
+/// of table and key, each with a key and a row of at most 1,006 bytes together.
+pub fn stays_storable()
+    ensures begins { AreStorable [] }
+    ensures grows { (st : Statement) (s : State) (own : List Write) → IsTrue (is_built st) → AreStorable own → AreStorable (own ++ (meaning st s (places own)).writes) }
+    ensures net { (s : State) (own : List Write) → AreStorable own → IsStorableList (net s own) }
 {}

@@ -10,15 +10,17 @@ mod event;
 mod laws;
 mod outcome;
 mod reply;
+mod side;
 mod statement;
 mod status;
 mod write;
 
 pub use entry::{Entries, Entry};
 pub use event::Event;
-pub use laws::{agrees_on_reads, answers_alone, runs_serially};
+pub use laws::{agrees_on_reads, answers_alone, runs_serially, stays_storable};
 pub use outcome::{Outcome, Ranges, Read};
 pub use reply::{Head, Reply};
+pub use side::OtherSide;
 pub use statement::{Compare, Names, Operand, Predicate, Statement, Truth, ValueRows, What};
 pub use status::Status;
 pub use write::{Write, Writes};

@@ -26,6 +26,9 @@ pub enum Reply {
     Committed(u64),
     /// COMMIT is done without a write, after this many entries.
     Ended(u64),
+    /// It isn't known whether COMMIT is done: the entry of this number may be there. The transaction is over, and until the
+    /// files are opened again every COMMIT is refused.
+    InDoubt(u64),
     /// The line is no line of a script.
     Line,
     /// The session's number is 0 or above 64.
@@ -38,8 +41,17 @@ pub enum Reply {
     InTransaction,
     /// A row with this key is there already. The statement changed nothing.
     Duplicate,
+    /// The transaction would have written more than 4,096 different keys. The statement changed nothing.
+    TooManyWrites,
+    /// The entry of this number is in doubt. The transaction stands, and can't be committed before the files are opened again.
+    Halted(u64),
     /// The entry of this number wrote a range that the transaction had read before. The transaction is over.
     Conflict(u64),
+    /// The record of the transaction needs so many bytes, and the active side of TRANSDB has so many left. The transaction
+    /// stands.
+    Full { need: u64, room: u64 },
+    /// A call on the file of this number failed, and nothing was committed. The transaction stands and may be committed again.
+    Fault(u32),
     /// Memory ran out. Nothing has changed.
     Memory,
 }
@@ -52,13 +64,21 @@ impl Duplicate for Reply {
             Reply::Done(count) => Ok(Reply::Done(*count)),
             Reply::Committed(number) => Ok(Reply::Committed(*number)),
             Reply::Ended(number) => Ok(Reply::Ended(*number)),
+            Reply::InDoubt(number) => Ok(Reply::InDoubt(*number)),
             Reply::Line => Ok(Reply::Line),
             Reply::NoSession => Ok(Reply::NoSession),
             Reply::NotYet => Ok(Reply::NotYet),
             Reply::NoTransaction => Ok(Reply::NoTransaction),
             Reply::InTransaction => Ok(Reply::InTransaction),
             Reply::Duplicate => Ok(Reply::Duplicate),
+            Reply::TooManyWrites => Ok(Reply::TooManyWrites),
+            Reply::Halted(number) => Ok(Reply::Halted(*number)),
             Reply::Conflict(number) => Ok(Reply::Conflict(*number)),
+            Reply::Full { need, room } => Ok(Reply::Full {
+                need: *need,
+                room: *room,
+            }),
+            Reply::Fault(file) => Ok(Reply::Fault(*file)),
             Reply::Memory => Ok(Reply::Memory),
         }
     }

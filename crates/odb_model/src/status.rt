@@ -1,5 +1,7 @@
-ghost use Rattle.std.specs.Prelude.{◌≡◌};
+ghost use Rattle.std.specs.Prelude.{◌≡◌, string_bytes, IfOk};
 ghost use Rattle.odb_model.specs.Status.{number_of, text_of};
+
+use std::alloc::{AllocError, Global};
 
 /// How the program ended.
 #[derive(Clone, Copy, Debug, PartialEq, Eq)]
@@ -12,6 +14,16 @@ pub enum Status {
     ReadFault,
     /// The output could not be written on.
     WriteFault,
+    /// A call on the file of this number failed while the database was made or opened.
+    FileFault { file: u32 },
+    /// There is no database in the current folder.
+    NoDatabase,
+    /// There is a database in the current folder already.
+    Exists,
+    /// A file isn't in order; `at` is the byte at which that shows.
+    Damaged { file: u32, at: u64 },
+    /// The entries of the history that a databank lacks, those above its mark, are held from a later number on.
+    NotHeld { bank: u32, mark: u64, first: u64 },
     /// The input has more than 2^32 bytes.
     InputTooLong,
     /// Memory ran out.
@@ -28,22 +40,36 @@ impl Status {
             Status::Usage => 2,
             Status::ReadFault => 3,
             Status::WriteFault => 4,
+            Status::FileFault { .. } => 5,
+            Status::NoDatabase => 6,
+            Status::Exists => 7,
+            Status::Damaged { .. } => 8,
+            Status::NotHeld { .. } => 9,
             Status::InputTooLong => 10,
             Status::NoMemory => 11,
         }
     }
 
-    /// The text for standard error, without an end of line; empty for `Done`.
-    pub fn text(self) -> &'static str
-        ensures { result.now ≡ text_of self }
+    /// The text for standard error, without an end of line; empty for `Done`. The error is want of memory.
+    pub fn text(self, alloc: Global) -> Result<String, AllocError>
+        ensures { IfOk result (λ text. string_bytes text ≡ text_of self) }
     {
         match self {
-            Status::Done => "",
-            Status::Usage => "optsql: usage",
-            Status::ReadFault => "optsql: read fault",
-            Status::WriteFault => "optsql: write fault",
-            Status::InputTooLong => "optsql: input too long",
-            Status::NoMemory => "optsql: no memory",
+            Status::Done => Ok(String::new(alloc)),
+            Status::Usage => format!(in alloc; "optsql: usage"),
+            Status::ReadFault => format!(in alloc; "optsql: read fault"),
+            Status::WriteFault => format!(in alloc; "optsql: write fault"),
+            Status::FileFault { file } => format!(in alloc; "optsql: fault: file {file}"),
+            Status::NoDatabase => format!(in alloc; "optsql: no database"),
+            Status::Exists => format!(in alloc; "optsql: database exists"),
+            Status::Damaged { file, at } => {
+                format!(in alloc; "optsql: damaged: file {file} at {at}")
+            }
+            Status::NotHeld { bank, mark, first } => {
+                format!(in alloc; "optsql: not held: bank {bank} mark {mark} first {first}")
+            }
+            Status::InputTooLong => format!(in alloc; "optsql: input too long"),
+            Status::NoMemory => format!(in alloc; "optsql: no memory"),
         }
     }
 }

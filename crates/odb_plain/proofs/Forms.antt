@@ -1,5 +1,5 @@
 -- What the statements of the forms mean.
-use Rattle.std.proofs.Common.{◌≡◌, ℤ, Bool, true, false, ◌&&◌, ◌||◌, ◌==◌, cond, List, [], ◌∷◌, map, filter, codes, is_some, refl, ap, sym, ◌∙◌, Some, None, slice_get, unwrap_or, if◌then◌else◌}
+use Rattle.std.proofs.Common.{◌≡◌, ℤ, Bool, true, false, ◌&&◌, ◌||◌, ◌==◌, cond, nat_lt, List, [], ◌∷◌, ◌++◌, map, filter, codes, is_some, refl, ap, sym, ◌∙◌, Some, None, slice_get, unwrap_or, if◌then◌else◌}
 use Rattle.std.specs.declared.cmp.Ordering.{Ordering}
 use Rattle.std.specs.declared.cmp.Ordering.TheVariants.{Less, Equal, Greater}
 use Rattle.std.specs.Ordering.{is_eq, is_lt, ordering_reverse}
@@ -13,12 +13,12 @@ use Rattle.odb_values.specs.Value.{value_cmp}
 use Rattle.odb_values.specs.ValueOrder.{value_cmp_total}
 use Rattle.odb_values.specs.Range.{passes_low}
 use Rattle.odb_model.specs.declared.write.Write.{Write}
-use Rattle.odb_model.specs.declared.reply.Reply.TheVariants.{Rows, Done, Duplicate}
+use Rattle.odb_model.specs.declared.reply.Reply.TheVariants.{Rows, Done, Duplicate, TooManyWrites}
 use Rattle.odb_model.specs.declared.statement.Compare.TheVariants.{Gt}
 use Rattle.odb_model.specs.State.{Place, State, place_of, is_in, part_in, rows_of}
 use Rattle.odb_model.specs.Table.{column_value, kv, in_columns}
 use Rattle.odb_model.specs.Truth.{truth_if, holds, compared, is_true, keeps}
-use Rattle.odb_model.specs.Meaning.{refused, put_of, put_all, selected, kept_rows}
+use Rattle.odb_model.specs.Meaning.{refused, put_of, put_all, different, most_writes, selected, kept_rows}
 use Rattle.odb_model.specs.Reads.{point_of, range_of}
 use Rattle.odb_model.proofs.Parts.{filter-filter, filter-map, filter-same, entries-retain_keys}
 use Rattle.odb_plain.specs.Form.{key_alone, key_above, pair_of}
@@ -45,9 +45,17 @@ module _ (key value : ℤ) (s rows : State) (point : Range) (w : Write) (copied 
       ∙ ap (λ v. is_some (get (part_in (point_of kv (Int key ∷ [])) s) (place_of v))) is
       ∙ is_some-in_point key value s
 
-pub put_all-one : (s : State) (w : Write) (b : Bool) → is_some (get s (place_of w)) ≡ b → put_all s (w ∷ []) ≡ (if b then refused Duplicate else record { reply = Done 1; writes = w ∷ [] })
-put_all-one s w true e = ap (λ b. if b || false then refused Duplicate else record { reply = Done 1; writes = w ∷ [] }) e
-put_all-one s w false e = ap (λ b. if b || false then refused Duplicate else record { reply = Done 1; writes = w ∷ [] }) e
+or_nothing : (b : Bool) → (b || false) ≡ b
+or_nothing true = refl
+or_nothing false = refl
+
+-- what an INSERT of one row answers and writes, by its two tests
+pub put_all-one : (s : State) (written : List Place) (w : Write) (b c : Bool) → is_some (get s (place_of w)) ≡ b → nat_lt most_writes (different (written ++ place_of w ∷ [])) ≡ c
+    → put_all s written (w ∷ []) ≡ (if b then refused Duplicate else if c then refused TooManyWrites else record { reply = Done 1; writes = w ∷ [] })
+put_all-one s written w b c e f =
+    ap (λ d. if d || false then refused Duplicate else if nat_lt most_writes (different (written ++ place_of w ∷ [])) then refused TooManyWrites else record { reply = Done 1; writes = w ∷ [] }) e
+    ∙ ap (λ d. if b || false then refused Duplicate else if d then refused TooManyWrites else record { reply = Done 1; writes = w ∷ [] }) f
+    ∙ ap (λ d. if d then refused Duplicate else if c then refused TooManyWrites else record { reply = Done 1; writes = w ∷ [] }) (or_nothing b)
 
 -- the values of a row of KV, in column order
 abbrev pub laid : Place × List Value → List Value

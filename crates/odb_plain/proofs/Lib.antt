@@ -4,3 +4,4 @@ pub mod Inside
 pub mod Forms
 pub mod Conflicts
 pub mod Nets
+pub mod Counts

@@ -1,8 +1,8 @@
 -- A map whose keys are places, as a finite map.
-use Rattle.std.proofs.Common.{◌≡◌, Bool, true, false, ◌&&◌, List, [], ◌∷◌, map, filter, cond, refl, ap, sym, subst, ◌∙◌, T, Option, Some, None}
-use Rattle.std.specs.declared.cmp.Ordering.TheVariants.{Less, Equal}
-use Rattle.std.specs.FinMap.{FinMap, get, insert, remove, retain_keys, find, entries, entries_sorted, from_entries, same_map, get-insert, get-remove, get-retain_keys, get-entries, get-from_entries}
-use Rattle.std.specs.FinMap.Entries.{is_sorted, below_all, same_entries, is_sorted-where_key, find-where_key}
+use Rattle.std.proofs.Common.{◌≡◌, Bool, true, false, ◌&&◌, List, [], ◌∷◌, map, cond, refl, ap, sym, subst, ◌∙◌, T, Option, Some, None}
+use Rattle.std.specs.declared.cmp.Ordering.TheVariants.{Less}
+use Rattle.std.specs.FinMap.{get, insert, remove, find, entries, entries_sorted, from_entries, same_map, get-insert, get-remove, get-entries, get-from_entries}
+use Rattle.std.specs.FinMap.Entries.{is_sorted, below_all, same_entries}
 use Rattle.std.specs.Cmp.{eq_by_cmp_equiv}
 use Rattle.std.specs.Map.{lookup}
 use Rattle.std.specs.List.{AllByRecursion}
@@ -57,10 +57,3 @@ module _ {X : Type 0} where
   pub entries-from_ordered : (es : List (Place × X)) → IsStrictlySortedBy place_cmp (map (λ e. e.0) es) → entries (from_entries {R = place_cmp} es) ≡ es
   entries-from_ordered es h = same_entries place_cmp place_cmp_total place_cmp_exact _ _ (entries_sorted (from_entries es)) (subst T (sym (sorted es h)) tt)
       (λ q. sym (get-entries (from_entries es) q) ∙ get-from_entries place_cmp_total es q)
-
-  -- the entries whose keys pass a test are a filter of all entries
-  pub entries-retain : (m : FinMap place_cmp X) (p : Place → Bool) → entries (retain_keys m p) ≡ filter (λ e. p e.0) (entries m)
-  entries-retain m p =
-      let alike : (q x : Place) → place_cmp q x ≡ Equal → p x ≡ p q = λ q x tied. ap p (sym (place_cmp_exact q x tied)) in
-      same_entries place_cmp place_cmp_total place_cmp_exact _ _ (entries_sorted (retain_keys m p)) (is_sorted-where_key place_cmp p (entries m) (entries_sorted m))
-      (λ q. sym (get-entries (retain_keys m p) q) ∙ get-retain_keys m p q (alike q) ∙ ap (λ o. cond (p q) o None) (get-entries m q) ∙ sym (find-where_key place_cmp p q (alike q) (entries m)))

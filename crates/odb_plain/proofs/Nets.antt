@@ -11,8 +11,9 @@ use Rattle.odb_model.specs.declared.write.Write.{Write}
 use Rattle.odb_model.specs.State.{Place, State, place_cmp, place_of, changed, after_writes}
 use Rattle.odb_model.specs.Transaction.{last_from, last_writes, is_there, net}
 use Rattle.odb_model.proofs.Replay.{place_cmp_total, get-changed_at}
+use Rattle.odb_model.proofs.Parts.{entries-retain_keys}
 use Rattle.odb_plain.proofs.Items.{take-item}
-use Rattle.odb_plain.proofs.Maps.{get-at_place, entries-retain, entries-from_ordered}
+use Rattle.odb_plain.proofs.Maps.{get-at_place, entries-from_ordered}
 
 -- whether a last write is kept: it puts a row, or takes one away
 abbrev pub is_kept : State → Place × Write → Bool
@@ -81,4 +82,4 @@ kept-all s ws m ordered last =
     is_there-last s ws e (ap (λ x. get x e.0) (sym last) ∙ get-at_place m.entries e.0 ∙ found k d within)) in
     ap (map (λ e. e.1)) (sym (filter_where (λ e. is_there s ws e.0) (is_kept s) m.entries there))
     ∙ ap (λ es. map (λ e. e.1) (filter (λ e. is_there s ws e.0) es)) (sym (entries-from_ordered m.entries ordered) ∙ ap entries last)
-    ∙ ap (map (λ e. e.1)) (sym (entries-retain (last_writes ws) (is_there s ws)))
+    ∙ ap (map (λ e. e.1)) (sym (entries-retain_keys (last_writes ws) (is_there s ws)))

@@ -11,8 +11,9 @@ ghost use Rattle.odb_plain.specs.Outcome.{IsOutcomeOf};
 
 use crate::form::{Form, form_of};
 use crate::kv::{kv_above, kv_in_dictionary, kv_point, kv_write};
+use crate::net::is_one_too_many;
 use crate::{Rows, rows_in};
-use odb_model::{Entry, Outcome, Reply, Statement, ValueRows, Write};
+use odb_model::{Entry, Outcome, Ranges, Reply, Statement, ValueRows, Write};
 use odb_values::{Duplicate, Frozen, List};
 use std::alloc::{AllocError, Global};
 
@@ -21,7 +22,8 @@ use std::alloc::{AllocError, Global};
 /// condition. The history and the own writes stay as they are.
 ///
 /// A SELECT or an INSERT goes over the whole history once, and takes memory for the rows inside the
-/// range that it reads. The error is want of memory.
+/// range that it reads. An INSERT behind 4,096 own writes or more takes memory for the last one of
+/// each key besides, to count the keys. The error is want of memory.
 pub fn execute(
     alloc: Global,
     statement: &Statement,
@@ -54,6 +56,17 @@ fn mark(alloc: Global) -> Outcome
     }
 }
 
+/// A statement that is refused, which writes nothing and has read all the same. It takes no memory.
+fn refused(alloc: Global, reply: Reply, reads: Ranges) -> Outcome
+    ensures { result ≡ record { reply = reply; writes = []; reads = reads } }
+{
+    Outcome {
+        reply,
+        writes: Frozen::empty(alloc),
+        reads,
+    }
+}
+
 /// INSERT INTO KV of one key and its value.
 fn insert(
     alloc: Global,
@@ -71,11 +84,10 @@ fn insert(
     let reads = vec![in alloc; kv_in_dictionary(alloc)?, point]?;
     let reads = Frozen::from_vec(reads);
     if rows.has(&place) {
-        return Ok(Outcome {
-            reply: Reply::Duplicate,
-            writes: Frozen::empty(alloc),
-            reads,
-        });
+        return Ok(refused(alloc, Reply::Duplicate, reads));
+    }
+    if is_one_too_many(alloc, own, &write)? {
+        return Ok(refused(alloc, Reply::TooManyWrites, reads));
     }
     let writes = Frozen::from_vec(vec![in alloc; write]?);
     Ok(Outcome {

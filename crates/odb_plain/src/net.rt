@@ -1,15 +1,19 @@
 //! What a transaction's writes leave.
-ghost use Rattle.std.specs.Prelude.{◌≡◌, is_some, IfOk, OnOk};
+ghost use Rattle.std.specs.Prelude.{◌≡◌, [], ◌∷◌, ◌++◌, nat_lt, is_some, IfOk, OnOk};
 ghost use Rattle.std.specs.Ordering.{eq_by_cmp};
 ghost use Rattle.std.specs.FinMap.{get, insert};
 ghost use Rattle.odb_model.specs.State.{State, place_cmp, place_of, after_writes, replay};
-ghost use Rattle.odb_model.specs.Transaction.{last_writes, net};
+ghost use Rattle.odb_model.specs.Meaning.{different, most_writes};
+ghost use Rattle.odb_model.specs.Transaction.{places, last_writes, net};
 ghost use Rattle.odb_plain.specs.Net.{by_place};
 
 use odb_model::{Entry, Write, Writes};
 use odb_values::{Duplicate, Frozen, Key, List};
 use std::alloc::{AllocError, Global};
 use std::collections::BTreeMap;
+
+/// The most keys that a transaction may write.
+const MOST_WRITES: usize = 4096;
 
 /// The writes that a transaction's own writes leave on a history: the last one of each key, by table
 /// and then in key order, without the keys that have no row before and after.
@@ -27,6 +31,27 @@ pub fn net_writes(alloc: Global, history: &[Entry], own: &[Write]) -> Result<Wri
         }
     }
     Ok(Frozen::new(net))
+}
+
+/// Whether a transaction with these writes would have written too many different keys with one write
+/// more.
+///
+/// Below 4,096 writes it can't have, and takes no memory. From there on it takes memory for the last
+/// write of each key. The error is want of memory.
+pub(crate) fn is_one_too_many(
+    alloc: Global,
+    own: &[Write],
+    write: &Write,
+) -> Result<bool, AllocError>
+    ensures { IfOk result (λ many. many
+        ≡ nat_lt most_writes (different (places own.now ++ place_of write.now ∷ []))) }
+{
+    if own.len() < MOST_WRITES {
+        return Ok(false);
+    }
+    let mut last = last_writes(alloc, own)?;
+    put_last(alloc, &mut last, write)?;
+    Ok(last.len() > MOST_WRITES)
 }
 
 /// The last write of each place.

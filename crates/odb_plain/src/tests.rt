@@ -290,3 +290,26 @@ fn rows_are_those_of_the_range(rt: HostRuntime) -> Result<(), Fail> {
     assert_eq!(rt; rows.iter().count(), 2);
     Ok(())
 }
+
+/// What an INSERT of a new key answers where the transaction has put keys from 0 on, and 0 once more.
+fn answer_behind(alloc: Global, keys: i64) -> Result<String, Fail> {
+    let mut changes = vec![in alloc; (5, 0, Some(1))]?;
+    for number in 0..keys {
+        changes.push((5, number, Some(0)))?;
+    }
+    let own = writes(alloc, &changes)?;
+    let statement = insert(alloc, "KV", &[-1, 1])?;
+    if !is_built(&statement) {
+        return Err(Fail::new("not built"));
+    }
+    told(alloc, &execute(alloc, &statement, &[], &own)?.reply)
+}
+
+#[test]
+fn different_keys_are_counted(rt: HostRuntime) -> Result<(), Fail> {
+    let alloc = rt.alloc();
+    for (keys, line) in [(4095, "Done(1)"), (4096, "TooManyWrites")] {
+        assert_eq!(rt; answer_behind(alloc, keys)?.as_str(), line);
+    }
+    Ok(())
+}

@@ -1,16 +1,19 @@
 -- How the parts of a script's play follow one another, and how it ends.
-use Rattle.std.proofs.Common.{◌≡◌, ◌≢◌, ℕ, ◌+◌, ◌-◌, Bool, true, false, List, [], ◌∷◌, ◌++◌, length, take, refl, sym, ap, subst, ◌∙◌, arith, inl, inr, append_assoc, eq-eqb}
+use Rattle.std.proofs.Common.{◌≡◌, ◌≢◌, ℕ, ◌+◌, ◌-◌, Bool, true, false, List, [], ◌∷◌, ◌++◌, length, take, refl, sym, ap, subst, ◌∙◌, arith, inl, inr, append_assoc, eq-eqb, eqb-true}
 use Rattle.std.specs.Prelude.{◌==◌, Result, Ok, Err}
-use Rattle.std.proofs.lemmas.Grind.{flat_map-append}
 use Rattle.std.proofs.lemmas.List.{append-nil, take_all, take-append-le}
 use Rattle.std.proofs.Math.Seq.{take-append_seam, take-length}
 use Rattle.std.proofs.lemmas.Bool.{cases_lt}
-use Rattle.odb_device.specs.World.{World}
-use Rattle.odb_device.specs.Console.{Says, SaysNothing}
+use Rattle.odb_device.specs.World.{World, file_of}
+use Rattle.odb_device.specs.Console.{Says}
 use Rattle.odb_device.proofs.Talking.{says_both}
 use Rattle.odb_model.specs.Machine.{Machine}
 use Rattle.odb_model.specs.Script.{ended_lines, open_line, last_line, all_lines}
-use Rattle.odb_model.specs.Play.{Answer, text_of_answer, said_by}
+use Rattle.odb_model.specs.Play.{Answer, IsAnswer, IsRun, machine_after, said_by}
+use Rattle.odb_transdb.specs.declared.header.Header.{Header}
+use Rattle.odb_system.specs.Durable.{IsDurable}
+use Rattle.odb_play.specs.Part.{IsPart, IsWhole}
+use Rattle.odb_play.proofs.Parts.{said_by-append, machine_after-append, whole_part, whole_then, whole_none}
 use Rattle.odb_model.proofs.Cut.{ended_lines-more}
 use Rattle.odb_model.proofs.Fronts.{IsFrontOf, front-last}
 use Rattle.odb_system.specs.Held.{Held, StandsFor}
@@ -18,11 +21,8 @@ use Rattle.odb_play.specs.declared.player.TheConstants.{FRONT}
 use Rattle.odb_play.specs.declared.player.Stop.{Stop}
 use Rattle.odb_play.specs.declared.player.Stop.TheVariants.{WriteFault, NoMemory}
 use Rattle.odb_play.specs.Kept.{kept_of, shown_last, HasNoLf}
-use Rattle.odb_play.specs.Played.{machine_after, Answered, IsAt, IsCalmAnswer, BrokenOff, LineEnds, BytesEnd, FinishEnds}
-use Rattle.odb_play.proofs.Lines.{FrontsTell, Answered-snoc, ended_lines-front, says_nothing, calm_line, said_one, kept_with}
-
-pub said_by-append : (xs ys : List Answer) → said_by (xs ++ ys) ≡ said_by xs ++ said_by ys
-said_by-append xs ys = flat_map-append text_of_answer xs ys
+use Rattle.odb_play.specs.Played.{IsAt, BrokenOff, LineEnds, StopsSaying, StopsForMemory, BytesEnd, FinishEnds, EndsWith, status_of}
+use Rattle.odb_play.proofs.Lines.{FrontsTell, IsRun-snoc, ended_lines-front, says_nothing, kept_with}
 
 -- the first of some lines are the first of these lines and more
 first_longer : (n : ℕ) (lines rest : List (List ℕ)) → (k : ℕ) × (take k (lines ++ rest) ≡ take n lines)
@@ -43,134 +43,206 @@ first_lines n xs ys =
 pub first_of_all : (n : ℕ) (input : List ℕ) → (k : ℕ) × (take k (all_lines input) ≡ take n (ended_lines input))
 first_of_all n input = first_longer n (ended_lines input) (last_line (open_line input))
 
-module _ (T U : Type 0) where
-  -- what has stopped has stopped, however the input goes on
-  pub bytes_longer : (m : Machine) (held after : Held) (kept line xs ys : List ℕ) (answers : List Answer) (stop : Stop) (old new : World)
-      → BytesEnd {T = T} m held kept xs answers (Err stop) old new → BytesEnd {T = U} m after line (xs ++ ys) answers (Err stop) old new
-  bytes_longer m held after kept line xs ys answers WriteFault old new ends =
-      let first = first_lines ends.2 xs ys in
-      (ends.0, ends.1, first.0, subst (λ (x : List (List ℕ)). Answered m x (answers ++ (ends.0 ++ ends.1 ∷ []))) (sym first.1) ends.3, ends.4)
-  bytes_longer m held after kept line xs ys answers NoMemory old new ends =
-      let first = first_lines ends.1 xs ys in
-      (ends.0, first.0, subst (λ (x : List (List ℕ)). Answered m x (answers ++ ends.0)) (sym first.1) ends.2, ends.3)
+-- what has stopped has stopped, however many lines there are
+pub stops_saying_longer : (h : Header) (m : Machine) (lines longer : List (List ℕ)) (answers : List Answer) (old new : World)
+    → ((n : ℕ) → (k : ℕ) × (take k longer ≡ take n lines)) → StopsSaying h m lines answers old new → StopsSaying h m longer answers old new
+stops_saying_longer h m lines longer answers old new front stops =
+    let first = front stops.count in
+    record {
+      more = stops.more;
+      last = stops.last;
+      count = first.0;
+      run = subst (λ (x : List (List ℕ)). IsRun m x (answers ++ (stops.more ++ stops.last ∷ []))) (sym first.1) stops.run;
+      part = stops.part;
+      broken = stops.broken;
+    }
 
-broken_then : (before more : List ℕ) (last : Answer) (old mid new : World) → Says before old mid → BrokenOff more last mid new → BrokenOff (before ++ more) last old new
-broken_then before more last old mid new said broken = record {
+pub stops_memory_longer : (h : Header) (m : Machine) (lines longer : List (List ℕ)) (answers : List Answer) (old new : World)
+    → ((n : ℕ) → (k : ℕ) × (take k longer ≡ take n lines)) → StopsForMemory h m lines answers old new → StopsForMemory h m longer answers old new
+stops_memory_longer h m lines longer answers old new front stops =
+    let first = front stops.count in
+    record {
+      more = stops.more;
+      untold = stops.untold;
+      few = stops.few;
+      count = first.0;
+      run = subst (λ (x : List (List ℕ)). IsRun m x (answers ++ (stops.more ++ stops.untold))) (sym first.1) stops.run;
+      part = stops.part;
+      says = stops.says;
+    }
+
+module _ (T U : Type 0) where
+  -- the same, however the input goes on
+  pub bytes_longer : (h : Header) (m : Machine) (held after : Held) (kept line xs ys : List ℕ) (answers : List Answer) (stop : Stop) (old new : World)
+      → BytesEnd {T = T} h m held kept xs answers (Err stop) old new → BytesEnd {T = U} h m after line (xs ++ ys) answers (Err stop) old new
+  bytes_longer h m held after kept line xs ys answers WriteFault old new ends =
+      stops_saying_longer h m (ended_lines xs) (ended_lines (xs ++ ys)) answers old new (λ n. first_lines n xs ys) ends
+  bytes_longer h m held after kept line xs ys answers NoMemory old new ends =
+      stops_memory_longer h m (ended_lines xs) (ended_lines (xs ++ ys)) answers old new (λ n. first_lines n xs ys) ends
+
+broken_then : (xs ys : List Answer) (last : Answer) (old mid new : World) → Says (said_by xs) old mid → BrokenOff (said_by ys) last mid new → BrokenOff (said_by (xs ++ ys)) last old new
+broken_then xs ys last old mid new said broken = record {
   front = broken.front;
   rest = broken.rest;
   text = broken.text;
   unsaid = broken.unsaid;
-  said = subst (λ (x : List ℕ). Says x old new) (sym (append_assoc before more broken.front)) (says_both before (more ++ broken.front) old mid new said broken.said);
+  said = subst (λ (x : List ℕ). Says x old new)
+      (sym (append_assoc (said_by xs) (said_by ys) broken.front) ∙ ap (λ x. x ++ broken.front) (sym (said_by-append xs ys)))
+      (says_both (said_by xs) (said_by ys ++ broken.front) old mid new said broken.said);
 }
 
-broken_same : (before more : List ℕ) (last : Answer) (old new : World) → before ≡ more → BrokenOff before last old new → BrokenOff more last old new
-broken_same before more last old new same broken = subst (λ (x : List ℕ). BrokenOff x last old new) same broken
+-- some answers were said, and then more
+module _ (h : Header) (m : Machine) (answers first : List Answer) (old mid new : World) (whole : IsWhole h (machine_after m answers) first old mid) where
+  whole_further : (more : List Answer) → IsWhole h (machine_after m (answers ++ first)) more mid new → IsWhole h (machine_after m answers) (first ++ more) old new
+  whole_further more next =
+      whole_then h (machine_after m answers) first more old mid new whole (subst (λ (x : Machine). IsWhole h x more mid new) (machine_after-append m answers first) next)
 
-module _ {T U : Type 0} (m : Machine) (held : Held) (kept xs ys : List ℕ) (answers : List Answer) (done : T) (after : Held) (line : List ℕ) (old mid new : World) where
+  part_further : (more : List Answer) → IsPart h (machine_after m (answers ++ first)) more mid new → IsPart h (machine_after m answers) (first ++ more) old new
+  part_further more next =
+      whole_part h (machine_after m answers) first more old mid new whole (subst (λ (x : Machine). IsPart h x more mid new) (machine_after-append m answers first) next)
+
+  pub saying_then : (lines : List (List ℕ)) → StopsSaying h m lines (answers ++ first) mid new → StopsSaying h m lines answers old new
+  saying_then lines next =
+      let tail : List Answer = next.last ∷ [] in
+      let path : first ++ (next.more ++ tail) ≡ first ++ next.more ++ tail = sym (append_assoc first next.more tail) in
+      record {
+        more = first ++ next.more;
+        last = next.last;
+        count = next.count;
+        run = subst (λ (x : List Answer). IsRun m (take next.count lines) x) (append_assoc answers first (next.more ++ tail) ∙ ap (λ x. answers ++ x) path) next.run;
+        part = subst (λ (x : List Answer). IsPart h (machine_after m answers) x old new) path (part_further (next.more ++ tail) next.part);
+        broken = broken_then first next.more next.last old mid new whole.says next.broken;
+      }
+
+  pub memory_then : (lines : List (List ℕ)) → StopsForMemory h m lines (answers ++ first) mid new → StopsForMemory h m lines answers old new
+  memory_then lines next =
+      let path : first ++ (next.more ++ next.untold) ≡ first ++ next.more ++ next.untold = sym (append_assoc first next.more next.untold) in
+      record {
+        more = first ++ next.more;
+        untold = next.untold;
+        few = next.few;
+        count = next.count;
+        run = subst (λ (x : List Answer). IsRun m (take next.count lines) x) (append_assoc answers first (next.more ++ next.untold) ∙ ap (λ x. answers ++ x) path) next.run;
+        part = subst (λ (x : List Answer). IsPart h (machine_after m answers) x old new) path (part_further (next.more ++ next.untold) next.part);
+        says = subst (λ (x : List ℕ). Says x old new) (sym (said_by-append first next.more)) (says_both (said_by first) (said_by next.more) old mid new whole.says next.says);
+      }
+
+module _ {T U : Type 0} (h : Header) (m : Machine) (held : Held) (kept xs ys : List ℕ) (answers : List Answer) (done : T) (after : Held) (line : List ℕ) (old mid new : World) where
   -- some bytes were fed, and then more
-  pub bytes_then : (result : Result U Stop) → BytesEnd m held kept xs answers (Ok done) old mid
-      → ((all : List Answer) → IsAt m held kept xs all → BytesEnd m after line (xs ++ ys) all result mid new)
-      → BytesEnd m after line (xs ++ ys) answers result old new
+  pub bytes_then : (result : Result U Stop) → BytesEnd h m held kept xs answers (Ok done) old mid
+      → ((all : List Answer) → IsAt h m held kept xs all → BytesEnd h m after line (xs ++ ys) all result mid new)
+      → BytesEnd h m after line (xs ++ ys) answers result old new
   bytes_then (Ok more_done) first then =
       let next = then (answers ++ first.0) first.1 in (
         first.0 ++ next.0,
-        subst (λ (x : List Answer). IsAt m after line (xs ++ ys) x) (append_assoc answers first.0 next.0) next.1,
-        subst (λ (x : List ℕ). Says x old new) (sym (said_by-append first.0 next.0)) (says_both (said_by first.0) (said_by next.0) old mid new first.2 next.2),
+        subst (λ (x : List Answer). IsAt h m after line (xs ++ ys) x) (append_assoc answers first.0 next.0) next.1,
+        whole_further h m answers first.0 old mid new first.2 next.0 next.2,
       )
-  bytes_then (Err WriteFault) first then =
-      let next = then (answers ++ first.0) first.1 in
-      let path : answers ++ first.0 ++ (next.0 ++ next.1 ∷ []) ≡ answers ++ (first.0 ++ next.0 ++ next.1 ∷ []) =
-      append_assoc answers first.0 (next.0 ++ next.1 ∷ []) ∙ ap (λ x. answers ++ x) (sym (append_assoc first.0 next.0 (next.1 ∷ []))) in (
-        first.0 ++ next.0,
-        next.1,
-        next.2,
-        subst (λ (x : List Answer). Answered m (take next.2 (ended_lines (xs ++ ys))) x) path next.3,
-        broken_same (said_by first.0 ++ said_by next.0) (said_by (first.0 ++ next.0)) next.1 old new (sym (said_by-append first.0 next.0))
-            (broken_then (said_by first.0) (said_by next.0) next.1 old mid new first.2 next.4),
-      )
-  bytes_then (Err NoMemory) first then =
-      let next = then (answers ++ first.0) first.1 in (
-        first.0 ++ next.0,
-        next.1,
-        subst (λ (x : List Answer). Answered m (take next.1 (ended_lines (xs ++ ys))) x) (append_assoc answers first.0 next.0) next.2,
-        subst (λ (x : List ℕ). Says x old new) (sym (said_by-append first.0 next.0)) (says_both (said_by first.0) (said_by next.0) old mid new first.2 next.3),
-      )
+  bytes_then (Err WriteFault) first then = saying_then h m answers first.0 old mid new first.2 (ended_lines (xs ++ ys)) (then (answers ++ first.0) first.1)
+  bytes_then (Err NoMemory) first then = memory_then h m answers first.0 old mid new first.2 (ended_lines (xs ++ ys)) (then (answers ++ first.0) first.1)
+
+-- a system at rest, where nothing was answered
+whole_at : (h : Header) (m : Machine) (held : Held) (kept input : List ℕ) (answers : List Answer) (w : World) → IsAt h m held kept input answers → IsDurable held (file_of 0 w)
+    → IsWhole h (machine_after m answers) [] w w
+whole_at h m held kept input answers w at durable = whole_none h (machine_after m answers) held w at.stands at.header durable
 
 -- nothing was fed yet
-pub bytes_none : {T : Type 0} (m : Machine) (held : Held) (kept input : List ℕ) (answers : List Answer) (done : T) (w : World)
-    → IsAt m held kept input answers → BytesEnd m held kept (input ++ []) answers (Ok done) w w
-bytes_none m held kept input answers done w at = (
+pub bytes_none : {T : Type 0} (h : Header) (m : Machine) (held : Held) (kept input : List ℕ) (answers : List Answer) (done : T) (w : World)
+    → IsDurable held (file_of 0 w) → IsAt h m held kept input answers → BytesEnd h m held kept (input ++ []) answers (Ok done) w w
+bytes_none h m held kept input answers done w durable at = (
   [],
-  subst (λ (x : List ℕ). IsAt m held kept x (answers ++ [])) (sym (append-nil input)) (subst (λ (x : List Answer). IsAt m held kept input x) (sym (append-nil answers)) at),
-  says_nothing w w refl,
+  subst (λ (x : List ℕ). IsAt h m held kept x (answers ++ [])) (sym (append-nil input)) (subst (λ (x : List Answer). IsAt h m held kept input x) (sym (append-nil answers)) at),
+  whole_at h m held kept input answers w at durable,
 )
 
 -- bytes without an LF were kept, or could not be
-pub bytes_kept : {T : Type 0} (m : Machine) (held : Held) (kept input part : List ℕ) (answers : List Answer) (done : T) (w : World) → HasNoLf part
-    → IsAt m held kept input answers → BytesEnd m held (kept ++ take (FRONT + 1 - length kept) part) (input ++ part) answers (Ok done) w w
-bytes_kept m held kept input part answers done w none at = (
+pub bytes_kept : {T : Type 0} (h : Header) (m : Machine) (held : Held) (kept input part : List ℕ) (answers : List Answer) (done : T) (w : World) → HasNoLf part
+    → IsDurable held (file_of 0 w) → IsAt h m held kept input answers → BytesEnd h m held (kept ++ take (FRONT + 1 - length kept) part) (input ++ part) answers (Ok done) w w
+bytes_kept h m held kept input part answers done w none durable at = (
   [],
   record {
-    answered = subst (λ (x : List (List ℕ)). Answered m x (answers ++ [])) (sym (ended_lines-more input part none)) (subst (λ (x : List Answer). Answered m (ended_lines input) x) (sym (append-nil answers)) at.answered);
+    run = subst (λ (x : List (List ℕ)). IsRun m x (answers ++ [])) (sym (ended_lines-more input part none)) (subst (λ (x : List Answer). IsRun m (ended_lines input) x) (sym (append-nil answers)) at.run);
     stands = subst (λ (x : List Answer). StandsFor held (machine_after m x)) (sym (append-nil answers)) at.stands;
+    header = at.header;
     line = kept_with kept input part at.line none;
   },
-  says_nothing w w refl,
+  whole_at h m held kept input answers w at durable,
 )
 
-pub bytes_not_kept : (T : Type 0) (m : Machine) (held after : Held) (kept line input part : List ℕ) (answers : List Answer) (old new : World) → SaysNothing old new
-    → IsAt m held kept input answers → BytesEnd {T = T} m after line (input ++ part) answers (Err NoMemory) old new
-bytes_not_kept T m held after kept line input part answers old new nothing at =
-    let first = first_lines (length (ended_lines input)) input part in (
-      [],
-      first.0,
-      subst (λ (x : List (List ℕ)). Answered m x (answers ++ [])) (sym (first.1 ∙ take-length (ended_lines input))) (subst (λ (x : List Answer). Answered m (ended_lines input) x) (sym (append-nil answers)) at.answered),
-      says_nothing old new nothing,
-    )
+pub bytes_not_kept : (T : Type 0) (h : Header) (m : Machine) (held after : Held) (kept line input part : List ℕ) (answers : List Answer) (w : World)
+    → IsDurable held (file_of 0 w) → IsAt h m held kept input answers → BytesEnd {T = T} h m after line (input ++ part) answers (Err NoMemory) w w
+bytes_not_kept T h m held after kept line input part answers w durable at =
+    let first = first_lines (length (ended_lines input)) input part in
+    record {
+      more = [];
+      untold = [];
+      few = omega arith;
+      count = first.0;
+      run = subst (λ (x : List (List ℕ)). IsRun m x (answers ++ [])) (sym (first.1 ∙ take-length (ended_lines input))) (subst (λ (x : List Answer). IsRun m (ended_lines input) x) (sym (append-nil answers)) at.run);
+      part = (whole_at h m held kept input answers w at durable).part;
+      says = says_nothing w w refl;
+    }
 
 -- all lines, where one is left open
 all_with : (input : List ℕ) (b : ℕ) (rest : List ℕ) → open_line input ≡ b ∷ rest → all_lines input ≡ ended_lines input ++ open_line input ∷ []
 all_with input b rest line = ap (λ x. ended_lines input ++ last_line x) line ∙ sym (ap (λ x. ended_lines input ++ x ∷ []) line)
 
 -- all lines, where none is left open
-pub finish_none : {T : Type 0} (m : Machine) (held : Held) (kept input : List ℕ) (answers : List Answer) (done : T) (w : World)
-    → IsAt m held kept input answers → open_line input ≡ [] → FinishEnds m input answers (Ok done) w w
-finish_none m held kept input answers done w at line =
+pub finish_none : {T : Type 0} (h : Header) (m : Machine) (held : Held) (kept input : List ℕ) (answers : List Answer) (done : T) (w : World)
+    → IsDurable held (file_of 0 w) → IsAt h m held kept input answers → open_line input ≡ [] → FinishEnds h m input answers (Ok done) w w
+finish_none h m held kept input answers done w durable at line =
     let lines : all_lines input ≡ ended_lines input = ap (λ x. ended_lines input ++ last_line x) line ∙ append-nil (ended_lines input) in (
       [],
-      subst (λ (x : List (List ℕ)). Answered m x (answers ++ [])) (sym lines) (subst (λ (x : List Answer). Answered m (ended_lines input) x) (sym (append-nil answers)) at.answered),
-      says_nothing w w refl,
+      subst (λ (x : List (List ℕ)). IsRun m x (answers ++ [])) (sym lines) (subst (λ (x : List Answer). IsRun m (ended_lines input) x) (sym (append-nil answers)) at.run),
+      whole_at h m held kept input answers w at durable,
     )
 
 module _ (fronts_tell : FrontsTell) where
-  answered_last : (m : Machine) (held : Held) (kept : List ℕ) (b : ℕ) (rest input : List ℕ) (answers : List Answer) (answer : Answer) → IsAt m held kept input answers → open_line input ≡ b ∷ rest
-      → IsCalmAnswer (shown_last kept) (machine_after m answers) answer → Answered m (all_lines input) (answers ++ answer ∷ [])
-  answered_last m held kept b rest input answers answer at line told =
+  answered_last : (h : Header) (m : Machine) (held : Held) (kept : List ℕ) (b : ℕ) (rest input : List ℕ) (answers : List Answer) (answer : Answer) → IsAt h m held kept input answers → open_line input ≡ b ∷ rest
+      → IsAnswer (shown_last kept) (machine_after m answers) answer → IsRun m (all_lines input) (answers ++ answer ∷ [])
+  answered_last h m held kept b rest input answers answer at line told =
       let front : IsFrontOf FRONT (shown_last kept) (open_line input) =
       subst (λ (x : List ℕ). IsFrontOf FRONT (shown_last x) (open_line input)) (sym at.line) (front-last FRONT (open_line input)) in
-      subst (λ (x : List (List ℕ)). Answered m x (answers ++ answer ∷ [])) (sym (all_with input b rest line))
-      (Answered-snoc m (ended_lines input) answers (open_line input) answer at.answered (calm_line fronts_tell (shown_last kept) (open_line input) (machine_after m answers) answer front told))
+      subst (λ (x : List (List ℕ)). IsRun m x (answers ++ answer ∷ [])) (sym (all_with input b rest line))
+      (IsRun-snoc m (ended_lines input) answers (open_line input) answer at.run (fronts_tell (shown_last kept) (open_line input) (machine_after m answers) answer front told))
 
-  -- the last line is answered, or not
-  pub finish_line : {T : Type 0} (m : Machine) (held : Held) (kept : List ℕ) (b : ℕ) (rest input : List ℕ) (answers : List Answer) (result : Result T Stop) (after : Held) (old new : World)
-      → IsAt m held kept input answers → open_line input ≡ b ∷ rest
-      → LineEnds (shown_last kept) (machine_after m answers) result after old new → FinishEnds m input answers result old new
-  finish_line m held kept b rest input answers (Ok done) after old new at line ends =
-      (ends.0 ∷ [], answered_last m held kept b rest input answers ends.0 at line ends.1, subst (λ (x : List ℕ). Says x old new) (said_one ends.0) ends.3)
-  finish_line m held kept b rest input answers (Err WriteFault) after old new at line ends = (
-    [],
-    ends.0,
-    length (all_lines input),
-    subst (λ (x : List (List ℕ)). Answered m x (answers ++ ends.0 ∷ [])) (sym (take-length (all_lines input))) (answered_last m held kept b rest input answers ends.0 at line ends.1),
-    ends.2,
-  )
-  finish_line m held kept b rest input answers (Err NoMemory) after old new at line ends =
-      let first = first_of_all (length (ended_lines input)) input in (
-        [],
-        first.0,
-        subst (λ (x : List (List ℕ)). Answered m x (answers ++ [])) (sym (first.1 ∙ take-length (ended_lines input))) (subst (λ (x : List Answer). Answered m (ended_lines input) x) (sym (append-nil answers)) at.answered),
-        says_nothing old new ends,
-      )
+  -- all of them, as the first of them
+  answered_whole : (h : Header) (m : Machine) (held : Held) (kept : List ℕ) (b : ℕ) (rest input : List ℕ) (answers : List Answer) (answer : Answer) → IsAt h m held kept input answers → open_line input ≡ b ∷ rest
+      → IsAnswer (shown_last kept) (machine_after m answers) answer → IsRun m (take (length (all_lines input)) (all_lines input)) (answers ++ answer ∷ [])
+  answered_whole h m held kept b rest input answers answer at line told =
+      subst (λ (x : List (List ℕ)). IsRun m x (answers ++ answer ∷ [])) (sym (take-length (all_lines input))) (answered_last h m held kept b rest input answers answer at line told)
+
+  -- the last line is answered
+  finish_line_under : {T : Type 0} (h : Header) (m : Machine) (held : Held) (kept : List ℕ) (b : ℕ) (rest input : List ℕ) (answers : List Answer) (result : Result T Stop) (after : Held) (old new : World)
+      → IsAt h m held kept input answers → open_line input ≡ b ∷ rest
+      → LineEnds h (shown_last kept) (machine_after m answers) result after old new → FinishEnds h m input answers result old new
+  finish_line_under h m held kept b rest input answers (Ok done) after old new at line ends =
+      (ends.0 ∷ [], answered_last h m held kept b rest input answers ends.0 at line ends.1, ends.3)
+  finish_line_under h m held kept b rest input answers (Err WriteFault) after old new at line ends = record {
+    more = [];
+    last = ends.0;
+    count = length (all_lines input);
+    run = answered_whole h m held kept b rest input answers ends.0 at line ends.1;
+    part = ends.2;
+    broken = ends.3;
+  }
+  finish_line_under h m held kept b rest input answers (Err NoMemory) after old new at line ends = record {
+    more = [];
+    untold = ends.0 ∷ [];
+    few = omega arith;
+    count = length (all_lines input);
+    run = answered_whole h m held kept b rest input answers ends.0 at line ends.1;
+    part = ends.2;
+    says = says_nothing old new ends.3;
+  }
+
+  -- the same, under the header of the system
+  pub finish_line : {T : Type 0} (h : Header) (m : Machine) (held : Held) (kept : List ℕ) (b : ℕ) (rest input : List ℕ) (answers : List Answer) (result : Result T Stop) (after : Held) (old new : World)
+      → IsAt h m held kept input answers → open_line input ≡ b ∷ rest
+      → LineEnds held.transdb.header (shown_last kept) (machine_after m answers) result after old new → FinishEnds h m input answers result old new
+  finish_line h m held kept b rest input answers result after old new at line ends =
+      finish_line_under h m held kept b rest input answers result after old new at line
+      (subst (λ (x : Header). LineEnds x (shown_last kept) (machine_after m answers) result after old new) at.header ends)
 
 -- nothing is kept just where no line is left open
 pub open_none : (kept o : List ℕ) → kept ≡ kept_of o → kept ≡ [] → o ≡ []
@@ -187,3 +259,14 @@ not_empty len test kept slice is other count same none =
     let zero_len : len ≡ 0 = sym count ∙ ap length (same ∙ none) in
     let yes : (len == 0) ≡ true = eq-eqb len 0 zero_len in
     cc
+
+-- what has a length of 0 has none
+pub empty : (len : ℕ) (test : Bool) (kept : List ℕ) → test ≡ (len == 0) → test ≡ true → length kept ≡ len → kept ≡ []
+empty len test [] is zeroed count = refl
+empty len test (b ∷ kept) is zeroed count = let zero_len : len ≡ 0 = eqb-true len 0 (sym is ∙ zeroed) in absurd (omega arith)
+
+-- the end by a stop, by its status
+pub ends_with : (T : Type 0) (h : Header) (m : Machine) (input : List ℕ) (answers : List Answer) (stop : Stop) (old new : World) → FinishEnds {T = T} h m input answers (Err stop) old new
+    → EndsWith h m input answers (status_of stop) old new
+ends_with T h m input answers WriteFault old new ends = ends
+ends_with T h m input answers NoMemory old new ends = ends

@@ -1,15 +1,15 @@
 -- Answers to lines, one after another.
-use Rattle.std.proofs.Common.{◌≡◌, ℕ, ◌+◌, ◌-◌, true, false, List, [], ◌∷◌, ◌++◌, length, take, refl, sym, ap, subst, ◌∙◌, append_assoc, eqb-true}
+use Rattle.std.proofs.Common.{◌≡◌, ℕ, ◌+◌, ◌-◌, true, false, List, [], ◌∷◌, ◌++◌, length, take, refl, sym, ap, subst, ◌∙◌, append_assoc, eqb-true, arith}
 use Rattle.std.specs.Prelude.{◌==◌, ◌||◌, Result, Ok, Err}
-use Rattle.std.proofs.lemmas.Grind.{flat_map-append}
 use Rattle.std.proofs.lemmas.List.{append-nil}
-use Rattle.std.proofs.Math.Seq.{take-append_seam, take-length}
+use Rattle.std.proofs.Math.Seq.{take-length}
 use Rattle.odb_device.specs.World.{World}
 use Rattle.odb_device.specs.Console.{Says, SaysNothing}
 use Rattle.odb_device.proofs.Talking.{adds_none}
 use Rattle.odb_model.specs.Machine.{Machine}
 use Rattle.odb_model.specs.Script.{ended_lines, open_line, without_cr}
-use Rattle.odb_model.specs.Play.{Answer, IsAnswer, IsRun, text_of_answer, said_by}
+use Rattle.odb_model.specs.Play.{Answer, IsAnswer, IsRun, machine_after}
+use Rattle.odb_transdb.specs.declared.header.Header.{Header}
 use Rattle.odb_model.proofs.Cut.{ended_lines-more, open_line-more, ended_lines-ended, open_line-ended}
 use Rattle.odb_model.proofs.Fronts.{IsFrontOf, kept-more, front-ended}
 use Rattle.odb_system.specs.Held.{Held, StandsFor}
@@ -17,33 +17,16 @@ use Rattle.odb_play.specs.declared.player.TheConstants.{FRONT}
 use Rattle.odb_play.specs.declared.player.Stop.{Stop}
 use Rattle.odb_play.specs.declared.player.Stop.TheVariants.{WriteFault, NoMemory}
 use Rattle.odb_play.specs.Kept.{kept_of, shown_ended, HasNoLf}
-use Rattle.odb_play.specs.Played.{machine_after, AllCalm, Answered, IsAt, IsCalmAnswer, LineEnds, BytesEnd}
+use Rattle.odb_play.specs.Played.{IsAt, LineEnds, BytesEnd}
+use Rattle.odb_play.proofs.Parts.{machine_after-append}
 
 -- a run goes on by one answer
-IsRun-snoc : (m : Machine) (lines : List (List ℕ)) (answers : List Answer) (line : List ℕ) (answer : Answer)
+pub IsRun-snoc : (m : Machine) (lines : List (List ℕ)) (answers : List Answer) (line : List ℕ) (answer : Answer)
     → IsRun m lines answers → IsAnswer line (machine_after m answers) answer → IsRun m (lines ++ line ∷ []) (answers ++ answer ∷ [])
 IsRun-snoc m [] [] line answer run is = (is, tt)
 IsRun-snoc m (x ∷ lines) (a ∷ answers) line answer run is = (run.0, IsRun-snoc a.after lines answers line answer run.1 is)
 IsRun-snoc m [] (a ∷ answers) line answer run is = absurd run
 IsRun-snoc m (x ∷ lines) [] line answer run is = absurd run
-
-machine_after-snoc : (m : Machine) (answers : List Answer) (answer : Answer) → machine_after m (answers ++ answer ∷ []) ≡ answer.after
-machine_after-snoc m [] answer = refl
-machine_after-snoc m (a ∷ answers) answer = machine_after-snoc a.after answers answer
-
-AllCalm-snoc : (answers : List Answer) (answer : Answer) → AllCalm answers → ((file : ℕ) → answer.risen file ≡ false) → AllCalm (answers ++ answer ∷ [])
-AllCalm-snoc [] answer calm one = (one, tt)
-AllCalm-snoc (a ∷ answers) answer calm one = (calm.0, AllCalm-snoc answers answer calm.1 one)
-
-pub Answered-snoc : (m : Machine) (lines : List (List ℕ)) (answers : List Answer) (line : List ℕ) (answer : Answer)
-    → Answered m lines answers → IsCalmAnswer line (machine_after m answers) answer → Answered m (lines ++ line ∷ []) (answers ++ answer ∷ [])
-Answered-snoc m lines answers line answer so_far is = record {
-  run = IsRun-snoc m lines answers line answer so_far.run is.answer_is;
-  calm = AllCalm-snoc answers answer so_far.calm is.calm;
-}
-
-pub said_by-snoc : (answers : List Answer) (answer : Answer) → said_by (answers ++ answer ∷ []) ≡ said_by answers ++ text_of_answer answer
-said_by-snoc answers answer = flat_map-append text_of_answer answers (answer ∷ []) ∙ ap (λ x. said_by answers ++ x) (append-nil (text_of_answer answer))
 
 -- the lines of a front of the input are a front of its lines
 pub ended_lines-front : (xs ys : List ℕ) → (rest : List (List ℕ)) × (ended_lines (xs ++ ys) ≡ ended_lines xs ++ rest)
@@ -59,12 +42,6 @@ ended_lines-front xs (b ∷ ys) =
       )
       | false ↦ λ e. (further.0, split ∙ ap (λ x. x ++ further.0) (ended_lines-more xs (b ∷ []) (ap (λ c. c || false) e)))
     ] refl
-
--- the first of all lines are those of a front of the input
-pub ended_lines-take : (xs ys : List ℕ) → (n : ℕ) × (take n (ended_lines (xs ++ ys)) ≡ ended_lines xs)
-ended_lines-take xs ys =
-    let front = ended_lines-front xs ys in
-    (length (ended_lines xs), ap (take (length (ended_lines xs))) front.1 ∙ take-append_seam (ended_lines xs) front.0)
 
 -- what is said of nothing
 pub says_nothing : (old new : World) → SaysNothing old new → Says [] old new
@@ -86,51 +63,64 @@ pub kept_with : (kept input part : List ℕ) → kept ≡ kept_of (open_line inp
 kept_with kept input part same none =
     ap (λ x. x ++ take (FRONT + 1 - length x) part) same ∙ kept-more (FRONT + 1) (open_line input) part ∙ ap kept_of (sym (open_line-more input part none))
 
-pub said_one : (answer : Answer) → text_of_answer answer ≡ said_by (answer ∷ [])
-said_one answer = sym (append-nil (text_of_answer answer))
-
 module _ (fronts_tell : FrontsTell) where
-  pub calm_line : (front line : List ℕ) (m : Machine) (answer : Answer) → IsFrontOf FRONT front line → IsCalmAnswer front m answer → IsCalmAnswer line m answer
-  calm_line front line m answer is told = record { answer_is = fronts_tell front line m answer is told.answer_is; calm = told.calm }
-
   -- one line more is answered
-  answered_line : (m : Machine) (kept input part : List ℕ) (answers : List Answer) (answer : Answer) → kept ≡ kept_of (open_line input) → Answered m (ended_lines input) answers
-      → HasNoLf part → IsCalmAnswer (shown_ended (kept ++ take (FRONT + 1 - length kept) part)) (machine_after m answers) answer
-      → Answered m (ended_lines (input ++ (part ++ 10 ∷ []))) (answers ++ answer ∷ [])
+  answered_line : (m : Machine) (kept input part : List ℕ) (answers : List Answer) (answer : Answer) → kept ≡ kept_of (open_line input) → IsRun m (ended_lines input) answers
+      → HasNoLf part → IsAnswer (shown_ended (kept ++ take (FRONT + 1 - length kept) part)) (machine_after m answers) answer
+      → IsRun m (ended_lines (input ++ (part ++ 10 ∷ []))) (answers ++ answer ∷ [])
   answered_line m kept input part answers answer line so_far none told =
       let shown : shown_ended (kept ++ take (FRONT + 1 - length kept) part) ≡ shown_ended (kept_of (open_line (input ++ part))) = ap shown_ended (kept_with kept input part line none) in
       let front : IsFrontOf FRONT (shown_ended (kept ++ take (FRONT + 1 - length kept) part)) (without_cr (open_line (input ++ part))) =
       subst (λ (x : List ℕ). IsFrontOf FRONT x (without_cr (open_line (input ++ part)))) (sym shown) (front-ended FRONT (open_line (input ++ part))) in
-      subst (λ (x : List (List ℕ)). Answered m x (answers ++ answer ∷ [])) (sym (lines_with input part none))
-      (Answered-snoc m (ended_lines input) answers (without_cr (open_line (input ++ part))) answer so_far
-      (calm_line (shown_ended (kept ++ take (FRONT + 1 - length kept) part)) (without_cr (open_line (input ++ part))) (machine_after m answers) answer front told))
+      subst (λ (x : List (List ℕ)). IsRun m x (answers ++ answer ∷ [])) (sym (lines_with input part none))
+      (IsRun-snoc m (ended_lines input) answers (without_cr (open_line (input ++ part))) answer so_far
+      (fronts_tell (shown_ended (kept ++ take (FRONT + 1 - length kept) part)) (without_cr (open_line (input ++ part))) (machine_after m answers) answer front told))
 
-  -- the bytes of a line came whole, and it is answered or not
-  pub line_ended : {T : Type 0} (m : Machine) (held : Held) (kept input part : List ℕ) (answers : List Answer) (result : Result T Stop) (after : Held) (old new : World)
-      → IsAt m held kept input answers → HasNoLf part
-      → LineEnds (shown_ended (kept ++ take (FRONT + 1 - length kept) part)) (machine_after m answers) result after old new
-      → BytesEnd m after [] (input ++ (part ++ 10 ∷ [])) answers result old new
-  line_ended m held kept input part answers (Ok done) after old new at none ends = (
+  -- all of them, as the first of them
+  answered_all : (m : Machine) (kept input part : List ℕ) (answers : List Answer) (answer : Answer) → kept ≡ kept_of (open_line input) → IsRun m (ended_lines input) answers
+      → HasNoLf part → IsAnswer (shown_ended (kept ++ take (FRONT + 1 - length kept) part)) (machine_after m answers) answer
+      → IsRun m (take (length (ended_lines (input ++ (part ++ 10 ∷ [])))) (ended_lines (input ++ (part ++ 10 ∷ [])))) (answers ++ answer ∷ [])
+  answered_all m kept input part answers answer line so_far none told =
+      subst (λ (x : List (List ℕ)). IsRun m x (answers ++ answer ∷ [])) (sym (take-length (ended_lines (input ++ (part ++ 10 ∷ []))))) (answered_line m kept input part answers answer line so_far none told)
+
+  -- the bytes of a line came whole, and it is answered
+  line_ended_under : {T : Type 0} (h : Header) (m : Machine) (held : Held) (kept input part : List ℕ) (answers : List Answer) (result : Result T Stop) (after : Held) (old new : World)
+      → IsAt h m held kept input answers → HasNoLf part → after.transdb.header ≡ held.transdb.header
+      → LineEnds h (shown_ended (kept ++ take (FRONT + 1 - length kept) part)) (machine_after m answers) result after old new
+      → BytesEnd h m after [] (input ++ (part ++ 10 ∷ [])) answers result old new
+  line_ended_under h m held kept input part answers (Ok done) after old new at none same ends = (
     ends.0 ∷ [],
     record {
-      answered = answered_line m kept input part answers ends.0 at.line at.answered none ends.1;
-      stands = subst (λ (x : Machine). StandsFor after x) (sym (machine_after-snoc m answers ends.0)) ends.2;
+      run = answered_line m kept input part answers ends.0 at.line at.run none ends.1;
+      stands = subst (λ (x : Machine). StandsFor after x) (sym (machine_after-append m answers (ends.0 ∷ []))) ends.2;
+      header = same ∙ at.header;
       line = ap kept_of (sym (ap open_line (sym (append_assoc input part (10 ∷ []))) ∙ open_line-ended (input ++ part)));
     },
-    subst (λ (x : List ℕ). Says x old new) (said_one ends.0) ends.3,
+    ends.3,
   )
-  line_ended m held kept input part answers (Err WriteFault) after old new at none ends = (
-    [],
-    ends.0,
-    length (ended_lines (input ++ (part ++ 10 ∷ []))),
-    subst (λ (x : List (List ℕ)). Answered m x (answers ++ ends.0 ∷ [])) (sym (take-length (ended_lines (input ++ (part ++ 10 ∷ [])))))
-        (answered_line m kept input part answers ends.0 at.line at.answered none ends.1),
-    ends.2,
-  )
-  line_ended m held kept input part answers (Err NoMemory) after old new at none ends =
-      let first = ended_lines-take input (part ++ 10 ∷ []) in (
-        [],
-        first.0,
-        subst (λ (x : List (List ℕ)). Answered m x (answers ++ [])) (sym first.1) (subst (λ (x : List Answer). Answered m (ended_lines input) x) (sym (append-nil answers)) at.answered),
-        says_nothing old new ends,
-      )
+  line_ended_under h m held kept input part answers (Err WriteFault) after old new at none same ends = record {
+    more = [];
+    last = ends.0;
+    count = length (ended_lines (input ++ (part ++ 10 ∷ [])));
+    run = answered_all m kept input part answers ends.0 at.line at.run none ends.1;
+    part = ends.2;
+    broken = ends.3;
+  }
+  line_ended_under h m held kept input part answers (Err NoMemory) after old new at none same ends = record {
+    more = [];
+    untold = ends.0 ∷ [];
+    few = omega arith;
+    count = length (ended_lines (input ++ (part ++ 10 ∷ [])));
+    run = answered_all m kept input part answers ends.0 at.line at.run none ends.1;
+    part = ends.2;
+    says = says_nothing old new ends.3;
+  }
+
+  -- the same, under the header of the system
+  pub line_ended : {T : Type 0} (h : Header) (m : Machine) (held : Held) (kept input part : List ℕ) (answers : List Answer) (result : Result T Stop) (after : Held) (old new : World)
+      → IsAt h m held kept input answers → HasNoLf part → after.transdb.header ≡ held.transdb.header
+      → LineEnds held.transdb.header (shown_ended (kept ++ take (FRONT + 1 - length kept) part)) (machine_after m answers) result after old new
+      → BytesEnd h m after [] (input ++ (part ++ 10 ∷ [])) answers result old new
+  line_ended h m held kept input part answers result after old new at none same ends =
+      line_ended_under h m held kept input part answers result after old new at none same
+      (subst (λ (x : Header). LineEnds x (shown_ended (kept ++ take (FRONT + 1 - length kept) part)) (machine_after m answers) result after old new) at.header ends)

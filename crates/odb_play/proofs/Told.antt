@@ -1,6 +1,6 @@
 -- A front of a line tells the answer to the line.
-use Rattle.std.proofs.Common.{◌≡◌, ◌≢◌, ℕ, ◌-◌, ◌<◌, Bool, true, false, List, [], length, take, drop, refl, sym, ap, ◌∙◌, subst, Some, None, Option, arith, inl, inr}
-use Rattle.std.specs.Prelude.{MatchBool}
+use Rattle.std.proofs.Common.{◌≡◌, ◌≢◌, ℕ, ◌-◌, ◌<◌, Bool, true, false, List, [], ◌∷◌, ◌++◌, length, take, drop, refl, sym, ap, ◌∙◌, subst, Some, None, Option, arith, inl, inr}
+use Rattle.std.specs.Prelude.{MatchBool, Ok, Err}
 use Rattle.odb_model.specs.declared.event.Event.TheVariants.{Session as OfSession}
 use Rattle.odb_model.specs.declared.event.Event.{Event}
 use Rattle.odb_model.specs.declared.reply.Head.{Head}
@@ -10,16 +10,27 @@ use Rattle.odb_system.specs.Held.{Held, StandsFor, Follows}
 use Rattle.odb_play.specs.declared.refusal.LineRefusal.{LineRefusal}
 use Rattle.odb_play.specs.declared.refusal.LineRefusal.TheVariants.{NoMemory, Line as LineUnknown, NoSession, NotYet}
 use Rattle.odb_play.specs.Lines.{head_of, reply_of, head_of_event, IsEventOf, IsRefusalOf}
-use Rattle.odb_device.specs.World.{World}
+use Rattle.odb_device.specs.World.{World, present}
+use Rattle.odb_device.specs.Counts.{Adds}
 use Rattle.odb_device.specs.Console.{Says, BreaksOff}
 use Rattle.odb_model.specs.Print.{reply_text}
 use Rattle.std.proofs.lemmas.List.{take-append-drop, length-drop}
-use Rattle.odb_play.specs.Played.{Replies, IsCalmAnswer, BrokenOff}
-use Rattle.odb_model.specs.declared.reply.Reply.TheVariants.{Memory}
+use Rattle.odb_device.specs.World.{file_of}
+use Rattle.odb_device.specs.Console.{SaysOnly}
+use Rattle.odb_device.specs.Moments.{Runs}
+use Rattle.odb_device.proofs.Talking.{says_none}
+use Rattle.odb_device.proofs.Time.{begins}
+use Rattle.odb_model.specs.Told.{Tells}
+use Rattle.odb_model.proofs.Told.{Tells-nothing}
+use Rattle.odb_system.specs.Durable.{IsDurable, HoldsThroughout, Risen}
+use Rattle.odb_play.specs.declared.player.Stop.TheVariants.{WriteFault as OutputFails, NoMemory as MemoryFails}
+use Rattle.odb_play.specs.Played.{Replies, LineEnds}
+use Rattle.odb_play.proofs.Parts.{durable_either, line_part, line_whole}
+use Rattle.odb_model.specs.declared.reply.Reply.TheVariants.{Committed, Memory}
 use Rattle.odb_model.specs.declared.statement.Statement.{Statement}
 use Rattle.odb_model.specs.declared.statement.Statement.TheVariants.{Start, Commit, Select, Insert}
 use Rattle.odb_model.specs.Meaning.{is_built}
-use Rattle.odb_model.specs.Machine.{Machine, Starts, Commits, Runs, Refuses, Step}
+use Rattle.odb_model.specs.Machine.{Machine, Starts, Commits, Runs as RunsStatement, Refuses, Step}
 use Rattle.odb_model.specs.Script.{IsRequest, IsRefused}
 use Rattle.odb_model.specs.Play.{Answer, IsAnswer, text_of_answer}
 use Rattle.odb_model.specs.Transaction.{Exchange}
@@ -42,54 +53,67 @@ starts_memory : (m : Machine) (s : ℕ) (o : Option (List Exchange)) → Starts 
 starts_memory m s None = refl
 starts_memory m s (Some t) = refl
 
-commits_memory : (m : Machine) (s : ℕ) (o : Option (List Exchange)) → Commits m s o Memory m
-commits_memory m s None = refl
-commits_memory m s (Some t) = refl
+commits_memory : (m : Machine) (s : ℕ) (risen : ℕ → Bool) (o : Option (List Exchange)) → Commits m s risen o Memory m
+commits_memory m s risen None = refl
+commits_memory m s risen (Some t) = refl
 
-runs_memory : (m : Machine) (s : ℕ) (st : Statement) → Runs m s st Memory m
-runs_memory m s Start = starts_memory m s (m.sessions s)
-runs_memory m s Commit = commits_memory m s (m.sessions s)
-runs_memory m s (Select what table f) = refl
-runs_memory m s (Insert table tuples) = refl
+runs_memory : (m : Machine) (s : ℕ) (risen : ℕ → Bool) (st : Statement) → RunsStatement m s risen st Memory m
+runs_memory m s risen Start = starts_memory m s (m.sessions s)
+runs_memory m s risen Commit = commits_memory m s risen (m.sessions s)
+runs_memory m s risen (Select what table f) = refl
+runs_memory m s risen (Insert table tuples) = refl
 
 either : (b : Bool) (P Q : Type 0) → P → Q → MatchBool b P Q
 either true P Q p q = p
 either false P Q p q = q
 
 pub step_memory : (m : Machine) (s : ℕ) (st : Statement) → Step m (OfSession s st) (λ _. false) Memory m
-step_memory m s st = either (is_built st) (Runs m s st Memory m) (Refuses m Memory m) (runs_memory m s st) refl
+step_memory m s st = either (is_built st) (RunsStatement m s (λ _. false) st Memory m) (Refuses m Memory m) (runs_memory m s (λ _. false) st) refl
 
 -- the system stepped
-pub replies_event : (line : List ℕ) (m : Machine) (event : Event) (reply : Reply) (held : Held) → IsEventOf line event → Follows m event reply held → Replies line m (head_of_event event) reply held
-replies_event line m (OfSession s st) reply held request follows = record {
-  answer = record { head = Session s; reply = reply; risen = λ _. false; after = follows.after };
-  calm = record { answer_is = inr (s, st, refl, request, follows.step); calm = λ file. refl };
+pub replies_event : (line : List ℕ) (m : Machine) (event : Event) (reply : Reply) (held : Held) (old new : World) → IsEventOf line event → Follows (Risen old new) m event reply held
+    → Replies line m (head_of_event event) reply held old new
+replies_event line m (OfSession s st) reply held old new request follows = record {
+  answer = record { head = Session s; reply = reply; risen = follows.risen; after = follows.after };
+  answer_is = inr (s, st, refl, request, follows.step);
+  cause = follows.cause;
   head_is = refl;
   reply_is = refl;
   stands = follows.stands;
 }
 
-refused : (line : List ℕ) (m : Machine) (head : Head) (reply : Reply) (held : Held) → IsRefused line head reply → StandsFor held m → Replies line m head reply held
-refused line m head reply held refusal stands = record {
+-- no file's count rose
+none_rose : (old new : World) (file : ℕ) → false ≡ true → Risen old new file
+none_rose old new file e = cc
+
+refused : (line : List ℕ) (m : Machine) (head : Head) (reply : Reply) (held : Held) (w : World) → IsRefused line head reply → StandsFor held m → Replies line m head reply held w w
+refused line m head reply held w refusal stands = record {
   answer = record { head = head; reply = reply; risen = λ _. false; after = m };
-  calm = record { answer_is = inl (refusal, refl); calm = λ file. refl };
+  answer_is = inl (refusal, refl);
+  cause = none_rose w w;
   head_is = refl;
   reply_is = refl;
   stands = stands;
 }
 
 -- the line was refused, or memory ran out before the step
-pub replies_refusal : (line : List ℕ) (m : Machine) (refusal : LineRefusal) (held : Held) → IsRefusalOf line refusal → StandsFor held m → Replies line m (head_of refusal) (reply_of refusal) held
-replies_refusal line m (NoMemory s) held request stands = record {
+pub replies_refusal : (line : List ℕ) (m : Machine) (refusal : LineRefusal) (held : Held) (w : World) → IsRefusalOf line refusal → StandsFor held m
+    → Replies line m (head_of refusal) (reply_of refusal) held w w
+replies_refusal line m (NoMemory s) held w request stands = record {
   answer = record { head = Session s; reply = Memory; risen = λ _. false; after = m };
-  calm = record { answer_is = inr (s, request.0, refl, request.1, step_memory m s request.0); calm = λ file. refl };
+  answer_is = inr (s, request.0, refl, request.1, step_memory m s request.0);
+  cause = none_rose w w;
   head_is = refl;
   reply_is = refl;
   stands = stands;
 }
-replies_refusal line m LineUnknown held refusal stands = refused line m (head_of LineUnknown) (reply_of LineUnknown) held refusal stands
-replies_refusal line m (NoSession s) held refusal stands = refused line m (head_of (NoSession s)) (reply_of (NoSession s)) held refusal stands
-replies_refusal line m (NotYet head) held refusal stands = refused line m (head_of (NotYet head)) (reply_of (NotYet head)) held refusal stands
+replies_refusal line m LineUnknown held w refusal stands = refused line m (head_of LineUnknown) (reply_of LineUnknown) held w refusal stands
+replies_refusal line m (NoSession s) held w refusal stands = refused line m (head_of (NoSession s)) (reply_of (NoSession s)) held w refusal stands
+replies_refusal line m (NotYet head) held w refusal stands = refused line m (head_of (NotYet head)) (reply_of (NotYet head)) held w refusal stands
+
+-- and nothing was done
+pub rests : (held : Held) (w : World) → IsDurable held (file_of 0 w) → Runs 0 (HoldsThroughout held held) w w
+rests held w durable = begins 0 (HoldsThroughout held held) w (durable_either held (file_of 0 w) durable)
 
 -- a rest that is not said is not empty
 some_left : (n : ℕ) (bytes : List ℕ) → n < length bytes → drop n bytes ≢ []
@@ -98,19 +122,55 @@ some_left n bytes within none =
     let left : length (drop n bytes) ≡ length bytes - n = length-drop n bytes in
     omega arith
 
--- the text of an answer broke off
-pub answer_breaks : (line : List ℕ) (m : Machine) (head : Head) (reply : Reply) (held : Held) (text : List ℕ) (old mid new : World)
-    → Replies line m head reply held → text ≡ reply_text head reply → mid ≡ old → BreaksOff text mid new → (x : Answer) × IsCalmAnswer line m x × BrokenOff [] x old new
-answer_breaks line m head reply held text old mid new replies printed same breaks =
-    let n : ℕ = breaks.0 in
-    let whole : text_of_answer replies.answer ≡ text = ap (λ h. reply_text h replies.answer.reply) replies.head_is ∙ ap (λ r. reply_text head r) replies.reply_is ∙ sym printed in (
-      replies.answer,
-      replies.calm,
-      record {
-        front = take n text;
-        rest = drop n text;
-        text = whole ∙ sym (take-append-drop n text);
-        unsaid = some_left n text breaks.1;
-        said = subst (λ (w : World). Says (take n text) w new) same breaks.2;
-      },
+nothing_tells : (reply : Reply) (front rest : List ℕ) (k : ℕ) → [] ≡ front ++ rest → Tells front k → reply ≡ Committed k
+nothing_tells reply [] rest k split t = absurd (Tells-nothing k t)
+nothing_tells reply (b ∷ front) rest k split t = cc
+
+module _ (line : List ℕ) (m : Machine) (head : Head) (reply : Reply) (before after : Held) (old mid : World) (stood : StandsFor before m) (replies : Replies line m head reply after old mid)
+    (same : after.transdb.header ≡ before.transdb.header) (run : Runs 0 (HoldsThroughout before after) old mid) (durable : IsDurable after (file_of 0 mid)) where
+  abbrev answer : Answer
+  answer = replies.answer
+
+  module _ (text : List ℕ) (new : World) (printed : text ≡ reply_text head reply) (tells : (front rest : List ℕ) (k : ℕ) → text ≡ front ++ rest → Tells front k → reply ≡ Committed k)
+      (says : SaysOnly text mid new) where
+    whole : text ≡ text_of_answer answer
+    whole = printed ∙ sym (ap (λ h. reply_text h answer.reply) replies.head_is ∙ ap (λ r. reply_text head r) replies.reply_is)
+
+    told : (front rest : List ℕ) (k : ℕ) → text ≡ front ++ rest → Tells front k → answer.reply ≡ Committed k
+    told front rest k split t = replies.reply_is ∙ tells front rest k split t
+
+    -- the answer was said
+    pub answer_said : {T : Type 0} (done : T) → Says text mid new → LineEnds before.transdb.header line m (Ok done) after old new
+    answer_said done said = (
+      answer,
+      replies.answer_is,
+      replies.stands,
+      line_whole before.transdb.header line m answer before after text old mid new replies.answer_is stood replies.stands refl same replies.cause run durable says told whole said,
     )
+
+    -- its text broke off
+    pub answer_breaks : (T : Type 0) → BreaksOff text mid new → LineEnds {T = T} before.transdb.header line m (Err OutputFails) after old new
+    answer_breaks T breaks =
+        let n : ℕ = breaks.0 in
+        let silent : (present mid).said ≡ (present old).said = run.only.said mid.time run.only.later (omega arith) in (
+          answer,
+          replies.answer_is,
+          line_part before.transdb.header line m answer before after text old mid new replies.answer_is stood replies.stands refl same replies.cause run durable says told,
+          record {
+            front = take n text;
+            rest = drop n text;
+            text = sym whole ∙ sym (take-append-drop n text);
+            unsaid = some_left n text breaks.1;
+            said = subst (λ (o : Option (List ℕ)). Adds (take n text) o (present new).said) silent breaks.2;
+          },
+        )
+
+  -- it could not be printed
+  pub answer_untold : (T : Type 0) → LineEnds {T = T} before.transdb.header line m (Err MemoryFails) after old mid
+  answer_untold T = (
+    answer,
+    replies.answer_is,
+    line_part before.transdb.header line m answer before after [] old mid mid replies.answer_is stood replies.stands refl same replies.cause run durable (says_none mid)
+        (λ front rest k split t. nothing_tells answer.reply front rest k split t),
+    run.only.said mid.time run.only.later (omega arith),
+  )

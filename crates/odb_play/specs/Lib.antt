@@ -1,4 +1,9 @@
 pub mod Lines
 pub mod Numbers
 pub mod Kept
+pub mod Part
 pub mod Played
+pub mod Outside
+pub mod Crash
+pub mod Opening
+pub mod Started

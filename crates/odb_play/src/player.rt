@@ -1,12 +1,17 @@
 // The player answers the lines of a script as their bytes come.
 ghost use Rattle.std.specs.Prelude.{◌≡◌, ℕ, ◌+◌, ◌-◌, List, [], ◌∷◌, ◌++◌, take, length, position, ◌==◌, OnOk, OnErr, Err};
-ghost use Rattle.odb_device.specs.Console.{Talks, TakesNothing, SayCountRose};
+ghost use Rattle.odb_device.specs.World.{file_of};
+ghost use Rattle.odb_device.specs.Console.{TakesNothing, SayCountRose};
+ghost use Rattle.odb_device.specs.Moments.{Runs};
 ghost use Rattle.odb_model.specs.Machine.{Machine};
 ghost use Rattle.odb_model.specs.Play.{Answer};
 ghost use Rattle.odb_model.specs.Script.{without_cr};
+ghost use Rattle.odb_transdb.specs.declared.header.Header.{Header};
 ghost use Rattle.odb_system.specs.Held.{StandsFor};
+ghost use Rattle.odb_system.specs.Durable.{IsDurable, HoldsThroughout};
 ghost use Rattle.odb_play.specs.Kept.{HasNoLf, shown_ended, shown_last};
 ghost use Rattle.odb_play.specs.Lines.{head_of_event};
+ghost use Rattle.odb_play.specs.Outside.{TouchesOnly};
 ghost use Rattle.odb_play.specs.Played.{IsAt, Replies, LineEnds, BytesEnd, FinishEnds};
 
 use crate::bytes::before;
@@ -99,8 +104,11 @@ fn head_of(event: &Event) -> Head
 
 /// The answer to a line: whom it names, and the reply.
 fn reply_to<H: Host>(system: &mut System, alloc: Global, host: &mut H, line: &[u8]) -> (Head, Reply)
-    ensures answer { (m : Machine) → StandsFor system.old m → Replies line.now m result.0 result.1 system.new }
-    ensures host { H.world host.new ≡ H.world host.old }
+    requires durable { IsDurable system.old (file_of 0 (H.world host.old)) }
+    ensures answer { (m : Machine) → StandsFor system.old m → Replies line.now m result.0 result.1 system.new (H.world host.old) (H.world host.new) }
+    ensures run { Runs 0 (HoldsThroughout system.old system.new) (H.world host.old) (H.world host.new) }
+    ensures durable { IsDurable system.new (file_of 0 (H.world host.new)) }
+    ensures same { system.new.transdb.header ≡ system.old.transdb.header }
 {
     match event_of(alloc, line) {
         Ok(event) => (head_of(&event), system.step(alloc, host, &event)),
@@ -115,8 +123,12 @@ fn answer<H: Host>(
     host: &mut H,
     line: &[u8],
 ) -> Result<(), Stop>
-    ensures answer { (m : Machine) → StandsFor system.old m → LineEnds line.now m result system.new (H.world host.old) (H.world host.new) }
-    ensures talks { Talks (H.world host.old) (H.world host.new) }
+    requires durable { IsDurable system.old (file_of 0 (H.world host.old)) }
+    ensures answer { (m : Machine) → StandsFor system.old m
+        → LineEnds system.old.transdb.header line.now m result system.new (H.world host.old) (H.world host.new) }
+    ensures durable { IsDurable system.new (file_of 0 (H.world host.new)) }
+    ensures same { system.new.transdb.header ≡ system.old.transdb.header }
+    ensures only { TouchesOnly 0 (H.world host.old) (H.world host.new) }
     ensures input { TakesNothing (H.world host.old) (H.world host.new) }
     ensures cause { result ≡ Err Stop.WriteFault → SayCountRose (H.world host.old) (H.world host.new) }
 {
@@ -133,9 +145,11 @@ fn answer<H: Host>(
 impl Player {
     /// The line of which these bytes are the end: answers it.
     fn end_line<H: Host>(&mut self, alloc: Global, host: &mut H, part: &[u8]) -> Result<(), Stop>
-        ensures bytes { (m : Machine) (input : List ℕ) (answers : List Answer) → IsAt m self.old.system self.old.kept.items input answers → HasNoLf part.now
-            → BytesEnd m self.new.system self.new.kept.items (input ++ (part.now ++ 10 ∷ [])) answers result (H.world host.old) (H.world host.new) }
-        ensures talks { Talks (H.world host.old) (H.world host.new) }
+        requires durable { IsDurable self.old.system (file_of 0 (H.world host.old)) }
+        ensures bytes { (h : Header) (m : Machine) (input : List ℕ) (answers : List Answer) → IsAt h m self.old.system self.old.kept.items input answers → HasNoLf part.now
+            → BytesEnd h m self.new.system self.new.kept.items (input ++ (part.now ++ 10 ∷ [])) answers result (H.world host.old) (H.world host.new) }
+        ensures durable { IsDurable self.new.system (file_of 0 (H.world host.new)) }
+        ensures only { TouchesOnly 0 (H.world host.old) (H.world host.new) }
         ensures input { TakesNothing (H.world host.old) (H.world host.new) }
         ensures cause { result ≡ Err Stop.WriteFault → SayCountRose (H.world host.old) (H.world host.new) }
     {
@@ -155,9 +169,11 @@ impl Player {
         host: &mut H,
         piece: &[u8],
     ) -> Result<(), Stop>
-        ensures bytes { (m : Machine) (input : List ℕ) (answers : List Answer) → IsAt m self.old.system self.old.kept.items input answers
-            → BytesEnd m self.new.system self.new.kept.items (input ++ piece.now) answers result (H.world host.old) (H.world host.new) }
-        ensures talks { Talks (H.world host.old) (H.world host.new) }
+        requires durable { IsDurable self.old.system (file_of 0 (H.world host.old)) }
+        ensures bytes { (h : Header) (m : Machine) (input : List ℕ) (answers : List Answer) → IsAt h m self.old.system self.old.kept.items input answers
+            → BytesEnd h m self.new.system self.new.kept.items (input ++ piece.now) answers result (H.world host.old) (H.world host.new) }
+        ensures durable { IsDurable self.new.system (file_of 0 (H.world host.new)) }
+        ensures only { TouchesOnly 0 (H.world host.old) (H.world host.new) }
         ensures input { TakesNothing (H.world host.old) (H.world host.new) }
         ensures cause { result ≡ Err Stop.WriteFault → SayCountRose (H.world host.old) (H.world host.new) }
     {
@@ -174,9 +190,11 @@ impl Player {
 
     /// Answers a last line that no LF ended, if there is one. Nothing may follow.
     pub(crate) fn finish<H: Host>(&mut self, alloc: Global, host: &mut H) -> Result<(), Stop>
-        ensures bytes { (m : Machine) (input : List ℕ) (answers : List Answer) → IsAt m self.old.system self.old.kept.items input answers
-            → FinishEnds m input answers result (H.world host.old) (H.world host.new) }
-        ensures talks { Talks (H.world host.old) (H.world host.new) }
+        requires durable { IsDurable self.old.system (file_of 0 (H.world host.old)) }
+        ensures bytes { (h : Header) (m : Machine) (input : List ℕ) (answers : List Answer) → IsAt h m self.old.system self.old.kept.items input answers
+            → FinishEnds h m input answers result (H.world host.old) (H.world host.new) }
+        ensures durable { IsDurable self.new.system (file_of 0 (H.world host.new)) }
+        ensures only { TouchesOnly 0 (H.world host.old) (H.world host.new) }
         ensures input { TakesNothing (H.world host.old) (H.world host.new) }
         ensures cause { result ≡ Err Stop.WriteFault → SayCountRose (H.world host.old) (H.world host.new) }
     {

@@ -47,15 +47,25 @@ pub head_of_part : (place n : ℕ) (bytes : List ℕ) (head : Head) → n ≡ 13
 head_of_part place n bytes head size is = is ∙ ap (λ (k : ℕ). head_at 0 (part place k bytes)) size ∙ head_part place bytes
 
 -- of bytes that hold those of the file from a place on
-pub head_shown : (from held place : ℕ) (window bytes : List ℕ) → take held window ≡ part from held bytes → from ≤ place
-    → place + 13 ≤ from + held → head_at 0 (part (place - from) 13 window) ≡ head_at place bytes
-head_shown from held place window bytes shows below above =
+part_shown : (from held place n : ℕ) (window bytes : List ℕ) → take held window ≡ part from held bytes → from ≤ place
+    → place + n ≤ from + held → part (place - from) n window ≡ part place n bytes
+part_shown from held place n window bytes shows below above =
     let k = place - from in
     let there : from + k ≡ place = omega arith in
-    let same : part k 13 window ≡ part place 13 bytes =
-    sym (part-take held k 13 window (omega arith)) ∙ ap (part k 13) shows ∙ part-part from held k 13 bytes (omega arith)
-    ∙ ap (λ (p : ℕ). part p 13 bytes) there in
-    ap (head_at 0) same ∙ head_part place bytes
+    sym (part-take held k n window (omega arith)) ∙ ap (part k n) shows ∙ part-part from held k n bytes (omega arith)
+    ∙ ap (λ (p : ℕ). part p n bytes) there
+
+pub bytes_shown : (o : Option File) (from held place size n : ℕ) (window out : List ℕ) → n ≡ size → out ≡ part (place - from) n window
+    → from ≤ place → place + size ≤ from + held → IfSome o (λ f. take held window ≡ part from held f.bytes)
+    → IfSome o (λ f. place + size ≤ length f.bytes → Some out ≡ Some (part place size f.bytes))
+bytes_shown None from held place size n window out whole is below above shows = tt
+bytes_shown (Some f) from held place size n window out whole is below above shows = λ long.
+    ap Some (is ∙ ap (λ (k : ℕ). part (place - from) k window) whole ∙ part_shown from held place size window f.bytes shows below above)
+
+head_shown : (from held place : ℕ) (window bytes : List ℕ) → take held window ≡ part from held bytes → from ≤ place
+    → place + 13 ≤ from + held → head_at 0 (part (place - from) 13 window) ≡ head_at place bytes
+head_shown from held place window bytes shows below above =
+    ap (head_at 0) (part_shown from held place 13 window bytes shows below above) ∙ head_part place bytes
 
 pub shows_head : (o : Option File) (from held place n : ℕ) (window : List ℕ) (head : Head) → n ≡ 13
     → head ≡ head_at 0 (part (place - from) n window) → from ≤ place → place + 13 ≤ from + held

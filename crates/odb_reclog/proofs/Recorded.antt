@@ -1,6 +1,7 @@
--- What `records` answers of a file that stands for its log.
-use Rattle.std.proofs.Common.{◌≡◌, ◌≢◌, ◌⊎◌, inl, inr, ℕ, suc, ◌+◌, ◌-◌, ◌<◌, ◌≤◌, List, length, Option, Some, None, sym, subst, arith}
+-- What `records` and `records_by` answer of a file that stands for its log.
+use Rattle.std.proofs.Common.{◌≡◌, ◌≢◌, inl, inr, ℕ, suc, ◌+◌, ◌-◌, ◌<◌, ◌≤◌, List, length, Option, Some, None, sym, subst, arith}
 use Rattle.std.specs.Prelude.{IfSome}
+use Rattle.std.proofs.Math.Nat.{eq-or-lt_of_le}
 use Rattle.odb_device.specs.World.{File}
 use Rattle.odb_device.specs.Images.{ReadsImage, part}
 use Rattle.odb_reclog.specs.Records.{OPEN, HEAD, size_at, number_at, payload_at, end_at, log_of, IsPlaceIn, record_in}
@@ -22,7 +23,12 @@ pub record IsInOrder (log : Log) (at : ℕ) (bytes : List ℕ) : Type 0 where
   pub ends : end_at at bytes ≤ log.place
   pub high : log.first ≤ number_at at bytes
   pub low : number_at at bytes < log.next
-  pub long : log.place ≤ length bytes
+  pub inside : log.place ≤ log.end
+  pub long : log.end ≤ length bytes
+
+-- a head is open, of a number of the list, and its record ends at `next` inside the list
+abbrev pub Fits : Log → Head → ℕ → Type 0
+Fits log head next = (head.gate ≡ OPEN) × (log.first ≤ head.number) × (head.number < log.next) × (next ≤ log.place)
 
 -- a file that stands for a log, and a place of its list
 pub record IsAsked (log : Log) (at : ℕ) (o : Option File) : Type 0 where
@@ -51,36 +57,46 @@ module _ (log : Log) (at : ℕ) where
         ends = omega (arith, r.within, s.place);
         high = r.high;
         low = omega (arith, r.low, s.number);
-        long = omega (arith, s.long, s.in_range.end);
+        inside = s.in_range.end;
+        long = s.long;
       }
+
+  -- where less than a head is left the list ends
+  pub none_near_end : (o : Option File) → IsAsked log at o → log.place - at < HEAD → IsRecordIn log at None o
+  none_near_end None asked near = tt
+  none_near_end (Some f) asked near = elim (eq-or-lt_of_le asked.before) [
+    | inl here ↦ none_at_end (Some f) asked here
+    | inr under ↦ absurd (omega (arith, near, (in_order (Some f) asked (λ same. omega (arith, under, same))).ends))
+  ]
 
   -- so the head is read, and is in order
   pub head_in_order : (o : Option File) (found : Option Head) → IfSome o (λ f. IsInOrder log at f.bytes)
       → IfSome o (λ f. at + 13 ≤ length f.bytes → found ≡ Some (head_at at f.bytes))
       → IfSome o (λ f. found ≡ Some (head_at at f.bytes))
   head_in_order None found order reads = tt
-  head_in_order (Some f) found order reads = reads (omega (arith, order.ends, order.long))
+  head_in_order (Some f) found order reads = reads (omega (arith, order.ends, order.inside, order.long))
+
+  -- also by a window on the region
+  pub head_by_window : (o : Option File) (found : Option Head) → IfSome o (λ f. IsInOrder log at f.bytes)
+      → IfSome o (λ f. log.end ≤ length f.bytes → found ≡ Some (head_at at f.bytes))
+      → IfSome o (λ f. found ≡ Some (head_at at f.bytes))
+  head_by_window None found order shows = tt
+  head_by_window (Some f) found order shows = shows order.long
 
   pub head_there : (o : Option File) (found : Option Head) → IfSome o (λ f. found ≡ Some (head_at at f.bytes)) → found ≡ None
       → IsRecordIn log at None o
   head_there None found is none = tt
   head_there (Some f) found is none = absurd (cc (is, none))
 
-  pub order_kept : (o : Option File) (head : Head) → IfSome o (λ f. IsInOrder log at f.bytes)
-      → IfSome o (λ f. Some head ≡ Some (head_at at f.bytes))
-      → (head.gate ≢ OPEN) ⊎ (head.number < log.first) ⊎ (log.next ≤ head.number) ⊎ (log.place < at + HEAD + head.size)
+  pub order_kept : (o : Option File) (head : Head) (next : ℕ) → IfSome o (λ f. IsInOrder log at f.bytes)
+      → IfSome o (λ f. Some head ≡ Some (head_at at f.bytes)) → next ≡ at + HEAD + head.size → (Fits log head next → ⊥)
       → IsRecordIn log at None o
-  order_kept None head order is broken = tt
-  order_kept (Some f) head order is broken =
+  order_kept None head next order is ends broken = tt
+  order_kept (Some f) head next order is ends broken =
       let gate : head.gate ≡ OPEN = cc (is, order.reads.is_open) in
       let number : head.number ≡ number_at at f.bytes = cc is in
       let size : head.size ≡ size_at at f.bytes = cc is in
-      absurd (elim broken [
-        | inl shut ↦ shut gate
-        | inr (inl under) ↦ omega (arith, order.high)
-        | inr (inr (inl over)) ↦ omega (arith, order.low)
-        | inr (inr (inr far)) ↦ omega (arith, order.ends)
-      ])
+      absurd (broken (gate, omega (arith, number, order.high), omega (arith, number, order.low), omega (arith, ends, size, order.ends)))
 
   -- and so is the payload
   pub record_found : (o : Option File) (head : Head) (payload : List ℕ) (next : ℕ) → IfSome o (λ f. IsInOrder log at f.bytes)
@@ -93,7 +109,7 @@ module _ (log : Log) (at : ℕ) where
   record_found (Some f) head payload next order is bytes ends =
       let number : head.number ≡ number_at at f.bytes = cc is in
       let size : head.size ≡ size_at at f.bytes = cc is in
-      let same : Some payload ≡ Some (part (at + HEAD) head.size f.bytes) = bytes (omega (arith, order.ends, order.long)) in
+      let same : Some payload ≡ Some (part (at + HEAD) head.size f.bytes) = bytes (omega (arith, order.ends, order.inside, order.long)) in
       let payload_is : payload ≡ payload_at at f.bytes = cc (same, size) in
       let next_is : next ≡ end_at at f.bytes = cc (ends, size) in
       cc (number, payload_is, next_is, order.reads.found)

@@ -1,5 +1,6 @@
 pub mod Records
 pub mod Standing
+pub mod Fields
 pub mod Moments
 pub mod Answers
 pub mod Reading

@@ -11,8 +11,8 @@ ghost use Rattle.odb_reclog.specs.Ends.{closed_at};
 use crate::head;
 use odb_device::{Failed, Store, write_synced};
 
-#[tactic(auto, unfolding(crate::specs::Records::gate_at))]
 /// Whether the gate at a place is open. One read of one byte.
+#[tactic(auto, unfolding(crate::specs::Records::gate_at))]
 fn is_open<S: Store>(store: &mut S, file: u32, place: u64) -> Result<bool, Failed>
     ensures run { Runs file (λ f. f ≡ file_of file (S.world store.old)) (S.world store.old) (S.world store.new) }
     ensures open { IfSome (file_of file (S.world store.old)) (λ f. place < length f.bytes → IfOk result (λ is_open. IsTrue is_open ↔ (gate_at place f.bytes ≡ OPEN))) }

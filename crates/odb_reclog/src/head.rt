@@ -18,8 +18,8 @@ pub(crate) struct Head {
 }
 
 impl Head {
-    #[tactic(auto, unfolding(crate::specs::Records::gate_at, crate::specs::Records::size_at, crate::specs::Records::number_at))]
     /// The head that 13 bytes are.
+    #[tactic(auto, unfolding(crate::specs::Records::gate_at, crate::specs::Records::size_at, crate::specs::Records::number_at))]
     pub(crate) fn from_bytes(bytes: &[u8]) -> Head
         requires { length bytes.now ≡ 13 }
         ensures { result ≡ head_at 0 bytes.now }

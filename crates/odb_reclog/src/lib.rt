@@ -19,3 +19,4 @@ pub use error::RecError;
 pub use log::RecLog;
 pub use plain::log_of;
 pub use record::LogRecord;
+pub use window::Window;

@@ -27,13 +27,14 @@ pub struct RecLog {
 }
 
 impl Model for RecLog {
+    ghost use Rattle.odb_reclog.specs.Fields.{log_in};
     ghost use Rattle.odb_reclog.specs.Standing.{Log, IsLog};
 
     ghost Value = { Log };
 
-    ghost view = { λ l. record { file = l.file; start = l.start; end = l.end; first = l.first; place = l.place; next = l.next; clear_from = l.clear_from; touched = l.touched; has_body = l.has_body; in_doubt = l.in_doubt } };
+    ghost view = { log_in };
 
-    ghost invariant = { λ l. IsLog (record { file = l.file; start = l.start; end = l.end; first = l.first; place = l.place; next = l.next; clear_from = l.clear_from; touched = l.touched; has_body = l.has_body; in_doubt = l.in_doubt }) };
+    ghost invariant = { λ l. IsLog (log_in l) };
 }
 
 impl RecLog {
@@ -60,7 +61,8 @@ impl RecLog {
 
     /// The place of the next record, in bytes from the file's start.
     pub fn place(&self) -> u64
-        ensures { result ≡ self.now.place }
+        ensures value { result ≡ self.now.place }
+        ensures range { (self.now.start ≤ self.now.place) × (self.now.place ≤ self.now.end) }
     {
         self.place
     }

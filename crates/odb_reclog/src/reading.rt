@@ -1,5 +1,5 @@
 // Opening a log, and reading its records.
-ghost use Rattle.std.specs.Prelude.{◌≡◌, ◌⊎◌, ◌+◌, ◌-◌, ◌^◌, ◌<◌, ◌≤◌, false, length, Some, Err, OnOk, IfOk, IfErr, IfSome, option_map};
+ghost use Rattle.std.specs.Prelude.{◌≡◌, ◌↔◌, IsTrue, ◌⊎◌, ◌+◌, ◌-◌, ◌^◌, ◌<◌, ◌≤◌, false, length, Some, Err, OnOk, IfOk, IfErr, IfSome, option_map};
 ghost use Rattle.odb_device.specs.World.{file_of};
 ghost use Rattle.odb_device.specs.Images.{part};
 ghost use Rattle.odb_device.specs.Calls.{HasCause, FileCountRose, Keeps};
@@ -7,10 +7,12 @@ ghost use Rattle.odb_device.specs.Moments.{Runs};
 ghost use Rattle.odb_reclog.specs.Moments.{KeepsLists};
 ghost use Rattle.odb_reclog.specs.Reading.{head_at};
 ghost use Rattle.odb_reclog.specs.Ends.{EndsAt, closed_at};
+ghost use Rattle.odb_reclog.specs.Windows.{Shows};
 
 use crate::gate::close_end;
 use crate::head::{HEAD, Head, OPEN};
 use crate::walk::{ListEnd, find_end};
+use crate::window::Window;
 use crate::{LogRecord, RecError, RecLog};
 use odb_device::{Failed, Store};
 use odb_values::{Bytes, Frozen};
@@ -92,11 +94,7 @@ impl RecLog {
             return Ok(None);
         };
         let next = head.end_from(at);
-        if head.gate != OPEN
-            || head.number < self.first
-            || head.number >= self.next
-            || next > self.place
-        {
+        if !self.is_in_order(head, next) {
             return Ok(None);
         }
         match read_bytes(alloc, store, self.file, at + HEAD, head.size)? {
@@ -107,6 +105,67 @@ impl RecLog {
             })),
             None => Ok(None),
         }
+    }
+
+    /// The record at a place, as `records` gives it, read by a window that shows the file as it is: a new one, or one that earlier
+    /// calls filled, where the file hasn't changed since.
+    ///
+    /// A walk over a list by one window reads the region in pieces of at most 65,536 bytes, and by one read more each payload that
+    /// lies across the end of a piece. Memory is taken for the payload; at the list's end there is no read.
+    ///
+    /// Fault: a read of the file failed. NoMemory: there is none for the payload. Neither changes the log; of the window nothing is
+    /// said then, so take a new one.
+    pub fn records_by<S: Store>(
+        &self,
+        alloc: Global,
+        store: &mut S,
+        window: &mut Window,
+        at: u64,
+    ) -> Result<Option<LogRecord>, RecError>
+        requires usable { self.now.in_doubt ≡ false }
+        requires stands { Stands self.now (file_of self.now.file (S.world store.old)) }
+        requires within { (self.now.start ≤ at) × (at ≤ self.now.place) }
+        requires place { IfSome (file_of self.now.file (S.world store.old)) (λ f. IsPlaceIn self.now.start (log_of self.now.start self.now.end self.now.first f.bytes) at) }
+        requires shows { Shows window.old (file_of self.now.file (S.world store.old)) }
+        ensures run { Runs self.now.file (λ f. f ≡ file_of self.now.file (S.world store.old)) (S.world store.old) (S.world store.new) }
+        ensures record { IfSome (file_of self.now.file (S.world store.old)) (λ f. IfOk result (λ found. found ≡ record_in self.now.start self.now.first (log_of self.now.start self.now.end self.now.first f.bytes) at)) }
+        ensures next { IfSome (file_of self.now.file (S.world store.old)) (λ f. IfOk result (λ found. IfSome found (λ r. IsPlaceIn self.now.start (log_of self.now.start self.now.end self.now.first f.bytes) r.next))) }
+        ensures forward { IfOk result (λ found. IfSome found (λ r. (at < r.next) × (r.next ≤ self.now.place))) }
+        ensures number { IfOk result (λ found. IfSome found (λ r. (self.now.first ≤ r.number) × (r.number < self.now.next))) }
+        ensures size { IfOk result (λ found. IfSome found (λ r. r.next ≡ at + 13 + length r.payload)) }
+        ensures shows { OnOk result (Shows window.new (file_of self.now.file (S.world store.old))) }
+        ensures refusal { IfErr result (λ e. (e ≡ RecError.Fault) ⊎ (e ≡ RecError.NoMemory)) }
+        ensures cause { result ≡ Err RecError.Fault → FileCountRose self.now.file (S.world store.old) (S.world store.new) }
+    {
+        if self.place - at < HEAD {
+            return Ok(None);
+        }
+        let Some(head) = window.head(store, self.file, at, self.end)? else {
+            return Ok(None);
+        };
+        let next = head.end_from(at);
+        if !self.is_in_order(head, next) {
+            return Ok(None);
+        }
+        match window.bytes(alloc, store, self.file, at + HEAD, head.size)? {
+            Some(payload) => Ok(Some(LogRecord {
+                number: head.number,
+                payload,
+                next,
+            })),
+            None => Ok(None),
+        }
+    }
+
+    /// Whether a head is in order, as far as a place shows it: its gate is open, its number is one of the list's, and the record,
+    /// which ends at `next`, doesn't end behind the list.
+    fn is_in_order(&self, head: Head, next: u64) -> bool
+        ensures { IsTrue result ↔ ((head.gate ≡ OPEN) × (self.now.first ≤ head.number) × (head.number < self.now.next) × (next ≤ self.now.place)) }
+    {
+        head.gate == OPEN
+            && self.first <= head.number
+            && head.number < self.next
+            && next <= self.place
     }
 }
 
@@ -147,7 +206,7 @@ fn read_head<S: Store>(store: &mut S, file: u32, at: u64) -> Result<Option<Head>
 }
 
 /// So many bytes from a place on; None where the store gives fewer. One read, and memory for the bytes.
-fn read_bytes<S: Store>(
+pub(crate) fn read_bytes<S: Store>(
     alloc: Global,
     store: &mut S,
     file: u32,

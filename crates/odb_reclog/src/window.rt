@@ -1,12 +1,16 @@
 // A part of a file as it was read last.
+use crate::RecError;
 use crate::head::{HEAD, Head};
+use crate::reading::read_bytes;
 use odb_device::{Failed, Store};
+use odb_values::{Bytes, Frozen};
+use std::alloc::Global;
 
 /// Bytes of a file as they were read last.
 ///
-/// A walk over a region reads it in pieces of 65,536 bytes by it.
+/// By one window a walk over a region reads it in pieces of at most 65,536 bytes, which the window holds in itself.
 #[derive(Drop)]
-pub(crate) struct Window {
+pub struct Window {
     bytes: [u8; 65_536],
     /// The place of the first of them in the file.
     from: u64,
@@ -15,15 +19,16 @@ pub(crate) struct Window {
 }
 
 impl Window {
-    ghost use Rattle.std.specs.Prelude.{◌≡◌, ◌+◌, ◌^◌, ◌≤◌, ◌↔◌, IsTrue, length, OnOk, IfOk, IfSome, Some, Option};
+    ghost use Rattle.std.specs.Prelude.{◌≡◌, ◌+◌, ◌^◌, ◌≤◌, ◌↔◌, IsTrue, ◌⊎◌, length, OnOk, IfOk, IfErr, IfSome, Some, Err, Option};
     ghost use Rattle.odb_device.specs.World.{File, file_of};
-    ghost use Rattle.odb_device.specs.Calls.{HasCause};
+    ghost use Rattle.odb_device.specs.Calls.{HasCause, FileCountRose};
+    ghost use Rattle.odb_device.specs.Images.{part};
     ghost use Rattle.odb_device.specs.Moments.{Runs};
     ghost use Rattle.odb_reclog.specs.Reading.{head_at};
     ghost use Rattle.odb_reclog.specs.Windows.{Shows};
 
-    /// A window that holds nothing.
-    pub(crate) fn new() -> Window
+    /// A window that holds nothing, so it shows every file as it is. It takes no memory.
+    pub fn new() -> Window
         ensures { (file : Option File) → Shows result file }
     {
         Window {
@@ -97,5 +102,40 @@ impl Window {
             }
         }
         Ok(Some(self.shown(place)))
+    }
+
+    /// Whether it holds so many bytes from a place on.
+    fn covers(&self, place: u64, size: u32) -> bool
+        requires { place ≤ 2 ^ 40 }
+        ensures { IsTrue result ↔ ((self.now.from ≤ place) × (place + size ≤ self.now.from + self.now.held)) }
+    {
+        self.from <= place && place - self.from + u64::from(size) <= self.held as u64
+    }
+
+    /// So many bytes of the file from a place on; None where the store gives fewer.
+    ///
+    /// A copy of what the window holds; else one read of these bytes. Memory is taken for them.
+    pub(crate) fn bytes<S: Store>(
+        &self,
+        alloc: Global,
+        store: &mut S,
+        file: u32,
+        place: u64,
+        size: u32,
+    ) -> Result<Option<Bytes>, RecError>
+        requires place { place ≤ 2 ^ 40 }
+        requires shows { Shows self.now (file_of file (S.world store.old)) }
+        ensures run { Runs file (λ f. f ≡ file_of file (S.world store.old)) (S.world store.old) (S.world store.new) }
+        ensures bytes { IfSome (file_of file (S.world store.old)) (λ f. place + size ≤ length f.bytes → IfOk result (λ found. found ≡ Some (part place size f.bytes))) }
+        ensures size { IfOk result (λ found. IfSome found (λ bytes. length bytes ≡ size)) }
+        ensures refusal { IfErr result (λ e. (e ≡ RecError.Fault) ⊎ (e ≡ RecError.NoMemory)) }
+        ensures cause { result ≡ Err RecError.Fault → FileCountRose file (S.world store.old) (S.world store.new) }
+    {
+        if !self.covers(place, size) {
+            return read_bytes(alloc, store, file, place, size);
+        }
+        let at = (place - self.from) as usize;
+        let held = &self.bytes[at..at + size as usize];
+        Ok(Some(Frozen::from_vec(held.to_vec(alloc)?)))
     }
 }

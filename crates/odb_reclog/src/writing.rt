@@ -8,14 +8,9 @@ ghost use Rattle.odb_device.specs.Moments.{Runs};
 ghost use Rattle.odb_reclog.specs.Standing.{AreZero};
 ghost use Rattle.odb_reclog.specs.Clearing.{ReadsZero};
 
+use crate::head::{HEAD, OPEN};
 use crate::{RecError, RecLog};
 use odb_device::{Failed, Store, write_synced};
-
-/// The bytes of a record before its payload: gate, length and number.
-const HEAD_SIZE: u64 = 13;
-
-/// What a gate holds that is open.
-const OPEN_GATE: u8 = 0xA5;
 
 /// How many bytes of a tail are cleared by one call.
 const PIECE: usize = 65536;
@@ -80,10 +75,11 @@ impl RecLog {
         ensures list { list_of self.new (file_of self.old.file (S.world store.new)) ≡ list_of self.old (file_of self.old.file (S.world store.old)) }
         ensures written { OnOk result ((self.new.has_body ≡ true) × HasItsBody self.new (file_of self.old.file (S.world store.new))) }
         ensures payload { OnOk result (IfSome (file_of self.old.file (S.world store.new)) (λ f. payload_at self.new.place f.bytes ≡ payload.now)) }
+        ensures behind { OnOk result (self.new.clear_from ≡ self.old.place + 13 + length payload.now) }
         ensures same { SameList self.old self.new }
         ensures cause { result ≡ Err RecError.Fault → FileCountRose self.old.file (S.world store.old) (S.world store.new) }
     {
-        let need = HEAD_SIZE + payload.len() as u64;
+        let need = HEAD + payload.len() as u64;
         let room = self.room();
         if room < need {
             return Err(RecError::Full { need, room });
@@ -111,13 +107,14 @@ impl RecLog {
         ensures list { OnOk result (IfSome (file_of self.old.file (S.world store.new)) (λ f. log_of self.new.start self.new.end self.new.first f.bytes ≡ list_of self.old (file_of self.old.file (S.world store.old)) ++ body_of self.old (file_of self.old.file (S.world store.old)) ∷ [])) }
         ensures number { IfOk result (λ n. n ≡ self.old.next) }
         ensures ok { OnOk result ((self.new.next ≡ self.old.next + 1) × IsClear self.new × (self.new.has_body ≡ false) × (self.new.in_doubt ≡ false)) }
+        ensures place { OnOk result (self.new.place ≡ self.old.clear_from) }
         ensures region { (self.new.file ≡ self.old.file) × (self.new.start ≡ self.old.start) × (self.new.end ≡ self.old.end) × (self.new.first ≡ self.old.first) }
         ensures err { OnErr result (self.new ≡ record self.old { in_doubt = true }) }
         ensures refusal { IfErr result (λ e. e ≡ RecError.Fault) }
         ensures cause { HasCause self.old.file (S.world store.old) (S.world store.new) result }
     {
         self.in_doubt = true;
-        write_synced(store, self.file, self.place, &[OPEN_GATE])?;
+        write_synced(store, self.file, self.place, &[OPEN])?;
         let number = self.next;
         self.place = self.clear_from;
         self.next = number + 1;
@@ -244,5 +241,5 @@ fn put_body<S: Store>(
     ensures cause { HasCause file (S.world store.old) (S.world store.new) result }
 {
     store.write_at(file, place + 1, head)?;
-    write_synced(store, file, place + HEAD_SIZE, payload)
+    write_synced(store, file, place + HEAD, payload)
 }

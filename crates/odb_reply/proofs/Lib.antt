@@ -1,2 +1,4 @@
 mod Quotes
 mod Commas
+mod Lines
+mod Telling

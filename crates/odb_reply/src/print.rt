@@ -1,5 +1,7 @@
-ghost use Rattle.std.specs.Prelude.{◌≡◌, ◌++◌, length, flat_map, codes, string_bytes, decimal, IfOk, OnOk};
+ghost use Rattle.std.specs.Prelude.{◌≡◌, ℕ, List, ◌++◌, length, flat_map, codes, string_bytes, decimal, All, IfOk, OnOk};
+ghost use Rattle.odb_model.specs.Told.{Tells};
 ghost use Rattle.odb_model.specs.Print.{head_text, line_of, row_line, reply_text};
+ghost use Rattle.odb_reply.specs.Unbroken.{IsUnbrokenRow, IsTellable};
 
 use crate::ReplyError;
 use crate::values::put_values;
@@ -9,10 +11,13 @@ use std::alloc::{AllocError, Global};
 
 /// The bytes of a reply under its head, each line ended by LF.
 ///
-/// A SELECT's rows come first, and then how many they are. The reply is only read, and one buffer
-/// grows to the length of the text. The error is want of memory alone.
+/// A SELECT's rows come first, and then how many they are. Where a front of the text is said, a whole
+/// line of the form `s COMMITTED k` stands in it only where the reply is that commit, since values hold
+/// no LF. The reply is only read, and one buffer grows to the length of the text. The error is want of
+/// memory alone.
 pub fn print_reply(alloc: Global, head: Head, reply: &Reply) -> Result<Bytes, ReplyError>
-    ensures { IfOk result (λ bytes. bytes ≡ reply_text head reply.now) }
+    ensures text { IfOk result (λ bytes. bytes ≡ reply_text head reply.now) }
+    ensures tells { IfOk result (λ bytes. (front rest : List ℕ) (k : ℕ) → bytes ≡ front ++ rest → Tells front k → reply.now ≡ Reply.Committed k) }
 {
     let mut out = String::new(alloc);
     put_reply(&mut out, head, reply)?;
@@ -20,8 +25,9 @@ pub fn print_reply(alloc: Global, head: Head, reply: &Reply) -> Result<Bytes, Re
 }
 
 fn put_reply(out: &mut String, head: Head, reply: &Reply) -> Result<(), AllocError>
-    ensures { OnOk result (string_bytes out.new
+    ensures text { OnOk result (string_bytes out.new
         ≡ string_bytes out.old ++ reply_text head reply.now) }
+    ensures tellable { OnOk result (IsTellable reply.now) }
 {
     match reply {
         Reply::Okay => put_line(out, head, "OK"),
@@ -29,22 +35,28 @@ fn put_reply(out: &mut String, head: Head, reply: &Reply) -> Result<(), AllocErr
         Reply::Done(count) => put_number_line(out, head, "DONE ", *count),
         Reply::Committed(number) => put_number_line(out, head, "COMMITTED ", *number),
         Reply::Ended(number) => put_number_line(out, head, "ENDED ", *number),
+        Reply::InDoubt(number) => put_number_line(out, head, "INDOUBT ", *number),
         Reply::Line => put_line(out, head, "REFUSED LINE"),
         Reply::NoSession => put_line(out, head, "REFUSED NOSESSION"),
         Reply::NotYet => put_line(out, head, "REFUSED NOTYET"),
         Reply::NoTransaction => put_line(out, head, "REFUSED NOTRANSACTION"),
         Reply::InTransaction => put_line(out, head, "REFUSED INTRANSACTION"),
         Reply::Duplicate => put_line(out, head, "REFUSED DUPLICATE"),
+        Reply::TooManyWrites => put_line(out, head, "REFUSED TOOMANYWRITES"),
+        Reply::Halted(number) => put_number_line(out, head, "REFUSED HALTED ", *number),
         Reply::Conflict(number) => put_number_line(out, head, "REFUSED CONFLICT ", *number),
+        Reply::Full { need, room } => put_full_line(out, head, *need, *room),
+        Reply::Fault(file) => put_number_line(out, head, "REFUSED FAULT ", u64::from(*file)),
         Reply::Memory => put_line(out, head, "REFUSED MEMORY"),
     }
 }
 
 /// A line for each row, and then how many rows there are.
 fn put_rows(out: &mut String, head: Head, rows: &[Values]) -> Result<(), AllocError>
-    ensures { OnOk result (string_bytes out.new
+    ensures text { OnOk result (string_bytes out.new
         ≡ string_bytes out.old ++ flat_map (row_line head) rows.now
         ++ line_of head (codes "ROWS " ++ decimal (length rows.now))) }
+    ensures unbroken { OnOk result (All IsUnbrokenRow rows.now) }
 {
     for row in rows {
         put_row(out, head, row)?;
@@ -53,7 +65,8 @@ fn put_rows(out: &mut String, head: Head, rows: &[Values]) -> Result<(), AllocEr
 }
 
 fn put_row(out: &mut String, head: Head, row: &Values) -> Result<(), AllocError>
-    ensures { OnOk result (string_bytes out.new ≡ string_bytes out.old ++ row_line head row.now) }
+    ensures text { OnOk result (string_bytes out.new ≡ string_bytes out.old ++ row_line head row.now) }
+    ensures unbroken { OnOk result (IsUnbrokenRow row.now) }
 {
     put_head(out, head)?;
     out.push_str(" ROW ")?;
@@ -67,6 +80,15 @@ fn put_number_line(out: &mut String, head: Head, words: &str, number: u64) -> Re
 {
     put_head(out, head)?;
     writeln!(out, " {words}{number}")
+}
+
+/// How many bytes a record needs, and how many are left.
+fn put_full_line(out: &mut String, head: Head, need: u64, room: u64) -> Result<(), AllocError>
+    ensures { OnOk result (string_bytes out.new
+        ≡ string_bytes out.old ++ line_of head (codes "REFUSED FULL " ++ decimal need ++ codes " " ++ decimal room)) }
+{
+    put_head(out, head)?;
+    writeln!(out, " REFUSED FULL {need} {room}")
 }
 
 fn put_line(out: &mut String, head: Head, words: &str) -> Result<(), AllocError>

@@ -1,6 +1,6 @@
 use super::*;
 use odb_model::{Head, Reply};
-use odb_values::{Frozen, Text, Value};
+use odb_values::{Bytes, Frozen, Text, Value};
 use std::alloc::Global;
 use std::test::Fail;
 
@@ -22,15 +22,14 @@ fn rows(alloc: Global) -> Result<Reply, Fail> {
     Ok(Reply::Rows(Frozen::from_vec(rows)))
 }
 
+fn printed(alloc: Global, head: Head, reply: &Reply) -> Result<Bytes, Fail> {
+    Ok(print_reply(alloc, head, reply)?)
+}
+
 #[test]
 fn replies_are_printed(rt: HostRuntime) -> Result<(), Fail> {
     let alloc = rt.alloc();
     let cases = [
-        (
-            Head::Session(3),
-            Reply::Conflict(44),
-            "3 REFUSED CONFLICT 44\n",
-        ),
         (Head::Session(1), Reply::Okay, "1 OK\n"),
         (
             Head::Session(64),
@@ -49,32 +48,44 @@ fn replies_are_printed(rt: HostRuntime) -> Result<(), Fail> {
             "8 COMMITTED 18446744073709551615\n",
         ),
         (Head::Session(9), Reply::Ended(0), "9 ENDED 0\n"),
-        (Head::Unknown, Reply::Line, "? REFUSED LINE\n"),
-        (
-            Head::Session(999_999_999),
-            Reply::NoSession,
-            "999999999 REFUSED NOSESSION\n",
-        ),
-        (Head::Control, Reply::NotYet, "! REFUSED NOTYET\n"),
-        (
-            Head::Session(10),
-            Reply::NoTransaction,
-            "10 REFUSED NOTRANSACTION\n",
-        ),
-        (
-            Head::Session(11),
-            Reply::InTransaction,
-            "11 REFUSED INTRANSACTION\n",
-        ),
-        (
-            Head::Session(12),
-            Reply::Duplicate,
-            "12 REFUSED DUPLICATE\n",
-        ),
-        (Head::Session(13), Reply::Memory, "13 REFUSED MEMORY\n"),
+        (Head::Session(1), Reply::InDoubt(1), "1 INDOUBT 1\n"),
     ];
     for (head, reply, text) in cases {
-        let bytes = print_reply(alloc, head, &reply)?;
+        let bytes = printed(alloc, head, &reply)?;
+        assert_eq!(rt; bytes.as_slice(), text.as_bytes(), "at {text:?}");
+    }
+    Ok(())
+}
+
+#[test]
+fn refusals_are_printed(rt: HostRuntime) -> Result<(), Fail> {
+    let alloc = rt.alloc();
+    let one = Head::Session(1);
+    let last = Head::Session(999_999_999);
+    let cases = [
+        (Head::Unknown, Reply::Line, "? REFUSED LINE\n"),
+        (Head::Control, Reply::NotYet, "! REFUSED NOTYET\n"),
+        (last, Reply::NoSession, "999999999 REFUSED NOSESSION\n"),
+        (one, Reply::NoTransaction, "1 REFUSED NOTRANSACTION\n"),
+        (one, Reply::InTransaction, "1 REFUSED INTRANSACTION\n"),
+        (one, Reply::Duplicate, "1 REFUSED DUPLICATE\n"),
+        (one, Reply::TooManyWrites, "1 REFUSED TOOMANYWRITES\n"),
+        (one, Reply::Halted(1), "1 REFUSED HALTED 1\n"),
+        (
+            Head::Session(3),
+            Reply::Conflict(44),
+            "3 REFUSED CONFLICT 44\n",
+        ),
+        (
+            one,
+            Reply::Full { need: 47, room: 0 },
+            "1 REFUSED FULL 47 0\n",
+        ),
+        (one, Reply::Fault(0), "1 REFUSED FAULT 0\n"),
+        (one, Reply::Memory, "1 REFUSED MEMORY\n"),
+    ];
+    for (head, reply, text) in cases {
+        let bytes = printed(alloc, head, &reply)?;
         assert_eq!(rt; bytes.as_slice(), text.as_bytes(), "at {text:?}");
     }
     Ok(())

@@ -1,13 +1,15 @@
 //! The texts of values.
 ghost use Rattle.std.specs.Prelude.{◌≡◌, ◌++◌, codes, string_bytes, OnOk};
 ghost use Rattle.odb_model.specs.Print.{doubled, value_text, values_text};
+ghost use Rattle.odb_reply.specs.Unbroken.{IsUnbroken, IsUnbrokenRow};
 
 use odb_values::Value;
 use std::alloc::AllocError;
 
 /// The values of a row with a comma between two.
 pub fn put_values(out: &mut String, values: &[Value]) -> Result<(), AllocError>
-    ensures { OnOk result (string_bytes out.new ≡ string_bytes out.old ++ values_text values.now) }
+    ensures text { OnOk result (string_bytes out.new ≡ string_bytes out.old ++ values_text values.now) }
+    ensures unbroken { OnOk result (IsUnbrokenRow values.now) }
 {
     for (at, value) in values.iter().enumerate() {
         if at > 0 {
@@ -18,8 +20,10 @@ pub fn put_values(out: &mut String, values: &[Value]) -> Result<(), AllocError>
     Ok(())
 }
 
+/// A value, whose text has no LF, since a text that is stored has none.
 fn put_value(out: &mut String, value: &Value) -> Result<(), AllocError>
-    ensures { OnOk result (string_bytes out.new ≡ string_bytes out.old ++ value_text value.now) }
+    ensures text { OnOk result (string_bytes out.new ≡ string_bytes out.old ++ value_text value.now) }
+    ensures unbroken { IsUnbroken value.now }
 {
     match value {
         Value::Null => out.push_str("NULL"),

@@ -1,45 +1,11 @@
 // Scripts through `run`, bytes in and bytes out.
-use crate::streams::{SlowReader, SlowWriter};
-use odb_device::Store;
+use crate::hosts::{host_of, new_database, play, played, words_of};
+use odb_memstore::MemHost;
 use odb_model::Status;
-use odb_tool::{StdHost, run};
-use std::alloc::{AllocError, Global};
+use odb_tool::run;
+use std::alloc::Global;
 use std::fmt::Write;
 use std::test::Fail;
-
-/// A number of a call that doesn't come.
-const NEVER: u64 = u64::MAX;
-
-/// The words of a command line.
-fn words_of(alloc: Global, words: &[&str]) -> Result<Vec<String>, AllocError> {
-    let mut list = Vec::new(alloc);
-    for word in words {
-        list.push(String::from_str(alloc, word)?)?;
-    }
-    Ok(list)
-}
-
-/// Plays a script, and answers the status and what was said.
-fn played(alloc: Global, script: &[u8]) -> Result<(Status, Vec<u8>), AllocError> {
-    let words = words_of(alloc, &["play"])?;
-    let mut said = Vec::new(alloc);
-    let status = run(
-        alloc,
-        words.as_slice(),
-        &mut StdHost::new(script, &mut said),
-    );
-    Ok((status, said))
-}
-
-/// Plays a script over a reader and a writer that take their time.
-fn played_slowly(
-    alloc: Global,
-    reader: SlowReader<'_>,
-    writer: &mut SlowWriter,
-) -> Result<Status, AllocError> {
-    let words = words_of(alloc, &["play"])?;
-    Ok(run(alloc, words.as_slice(), &mut StdHost::new(reader, writer)))
-}
 
 #[test]
 fn worked_scripts_play(rt: HostRuntime) -> Result<(), Fail> {
@@ -90,8 +56,8 @@ fn worked_scripts_play(rt: HostRuntime) -> Result<(), Fail> {
         ),
     ];
     for (script, wanted) in cases {
-        let (status, said) = played(rt.alloc(), script)?;
-        assert_eq!(rt; said.as_slice(), wanted);
+        let (status, host) = played(rt.alloc(), script)?;
+        assert_eq!(rt; host.said(), wanted);
         assert_eq!(rt; status, Status::Done);
     }
     Ok(())
@@ -116,8 +82,8 @@ fn sessions_play_at_once(rt: HostRuntime) -> Result<(), Fail> {
         writeln!(script, "{session} COMMIT")?;
         writeln!(wanted, "{session} COMMITTED {session}")?;
     }
-    let (status, said) = played(rt.alloc(), script.as_bytes())?;
-    assert_eq!(rt; said.as_slice(), wanted.as_bytes());
+    let (status, host) = played(rt.alloc(), script.as_bytes())?;
+    assert_eq!(rt; host.said(), wanted.as_bytes());
     assert_eq!(rt; status, Status::Done);
     Ok(())
 }
@@ -174,12 +140,8 @@ fn hostile_lines_play(rt: HostRuntime) -> Result<(), Fail> {
         ),
     ];
     for (script, wanted) in cases {
-        let (status, said) = played(rt.alloc(), script)?;
-        assert_eq!(rt; said.as_slice(), wanted, "at {script:?}");
-        assert_eq!(rt; status, Status::Done);
-        let mut writer = SlowWriter::new(rt.alloc(), 1, NEVER);
-        let status = played_slowly(rt.alloc(), SlowReader::new(script, 1, NEVER), &mut writer)?;
-        assert_eq!(rt; writer.said.as_slice(), wanted, "slowly at {script:?}");
+        let (status, host) = played(rt.alloc(), script)?;
+        assert_eq!(rt; host.said(), wanted, "at {script:?}");
         assert_eq!(rt; status, Status::Done);
     }
     Ok(())
@@ -201,8 +163,8 @@ fn long_lines_play(rt: HostRuntime) -> Result<(), Fail> {
     for (front, rest, wanted) in cases {
         let rest = rest.repeat(alloc, 70_000)?;
         let script = format!(in alloc; "{front}{rest}\n2 START\n")?;
-        let (status, said) = played(alloc, script.as_bytes())?;
-        assert_eq!(rt; said.as_slice(), wanted.as_bytes(), "after {front}");
+        let (status, host) = played(alloc, script.as_bytes())?;
+        assert_eq!(rt; host.said(), wanted.as_bytes(), "after {front}");
         assert_eq!(rt; status, Status::Done);
     }
     Ok(())
@@ -210,123 +172,65 @@ fn long_lines_play(rt: HostRuntime) -> Result<(), Fail> {
 
 #[test]
 fn other_words_are_refused(rt: HostRuntime) -> Result<(), Fail> {
-    let cases: [&[&str]; 7] = [
+    let alloc = rt.alloc();
+    let cases: [&[&str]; 9] = [
         &[],
         &[""],
         &["PLAY"],
-        &["create"],
+        &["play", "4"],
         &["play", "x"],
         &["play", "play"],
         &["play "],
+        &["create", "--side"],
+        &["CREATE"],
     ];
+    let file = new_database(alloc)?;
     for words in cases {
-        let words = words_of(rt.alloc(), words)?;
-        let mut input = b"1 START\n".as_slice();
-        let mut said = Vec::new(rt.alloc());
-        let status = run(
-            rt.alloc(),
-            words.as_slice(),
-            &mut StdHost::new(&mut input, &mut said),
-        );
+        let words = words_of(alloc, words)?;
+        let mut host = host_of(alloc, file.as_slice(), b"1 START\n")?;
+        let status = run(alloc, words.as_slice(), &mut host);
         assert_eq!(rt; status, Status::Usage);
-        assert_eq!(rt; said.len(), 0);
-        assert_eq!(rt; input.len(), 8, "nothing is taken");
+        assert_eq!(rt; status.number(), 2);
+        assert_eq!(rt; host.calls(), 0, "no call is made");
     }
     Ok(())
+}
+
+/// Which status ends a play in which this call fails, and what was said.
+fn broken(alloc: Global, file: &[u8], script: &[u8], call: u32) -> Result<(Status, MemHost), Fail> {
+    let mut host = host_of(alloc, file, script)?;
+    host.fail(alloc, call)?;
+    let status = play(alloc, &mut host)?;
+    Ok((status, host))
 }
 
 #[test]
 fn faults_end_the_script(rt: HostRuntime) -> Result<(), Fail> {
-    // 48 bytes, taken by 10; 28 bytes, said by 5.
-    let script = b"1 START\n1 INSERT INTO KV VALUES (1,10)\n1 COMMIT\n".as_slice();
-    let replies = b"1 OK\n1 DONE 1\n1 COMMITTED 1\n".as_slice();
-    let takes: [(u64, &[u8]); 6] = [
-        (0, b""),
-        (1, b"1 OK\n"),
-        (2, b"1 OK\n"),
-        (3, b"1 OK\n"),
-        (4, b"1 OK\n1 DONE 1\n"),
-        (5, replies),
+    let alloc = rt.alloc();
+    let file = new_database(alloc)?;
+    let script = b"1 START\n2 START\n".as_slice();
+    // Opening makes 7 calls of the store, then the script is taken, each reply said, and the end of the input met.
+    let cases: [(Status, &[u8]); 12] = [
+        (Status::FileFault { file: 0 }, b""),
+        (Status::FileFault { file: 0 }, b""),
+        (Status::FileFault { file: 0 }, b""),
+        (Status::FileFault { file: 0 }, b""),
+        (Status::FileFault { file: 0 }, b""),
+        (Status::FileFault { file: 0 }, b""),
+        (Status::FileFault { file: 0 }, b""),
+        (Status::ReadFault, b""),
+        (Status::WriteFault, b""),
+        (Status::WriteFault, b"1 OK\n"),
+        (Status::ReadFault, b"1 OK\n2 OK\n"),
+        (Status::Done, b"1 OK\n2 OK\n"),
     ];
-    let says: [(u64, &[u8]); 6] = [
-        (0, b""),
-        (1, b"1 OK\n"),
-        (2, b"1 OK\n1 DON"),
-        (3, b"1 OK\n1 DONE 1\n"),
-        (4, b"1 OK\n1 DONE 1\n1 COM"),
-        (5, b"1 OK\n1 DONE 1\n1 COMMITTE"),
-    ];
-    for (n, wanted) in takes {
-        let mut writer = SlowWriter::new(rt.alloc(), 5, NEVER);
-        let status = played_slowly(rt.alloc(), SlowReader::new(script, 10, n), &mut writer)?;
-        assert_eq!(rt; writer.said.as_slice(), wanted, "at take {n}");
-        assert_eq!(rt; status, Status::ReadFault);
+    let mut next = 0u32;
+    for (wanted, text) in cases {
+        let call = next;
+        next = call.saturating_add(1);
+        let (status, host) = broken(alloc, file.as_slice(), script, call)?;
+        assert_eq!(rt; status, wanted, "where call {call} fails");
+        assert_eq!(rt; host.said(), text, "where call {call} fails");
     }
-    for (n, wanted) in says {
-        let mut writer = SlowWriter::new(rt.alloc(), 5, n);
-        let status = played_slowly(rt.alloc(), SlowReader::new(script, 10, NEVER), &mut writer)?;
-        assert_eq!(rt; writer.said.as_slice(), wanted, "at say {n}");
-        assert_eq!(rt; status, Status::WriteFault);
-    }
-    let mut writer = SlowWriter::new(rt.alloc(), 5, 6);
-    let status = played_slowly(rt.alloc(), SlowReader::new(script, 10, 6), &mut writer)?;
-    assert_eq!(rt; writer.said.as_slice(), replies);
-    assert_eq!(rt; writer.flushed, 28);
-    assert_eq!(rt; status, Status::Done);
     Ok(())
-}
-
-#[test]
-fn std_host_has_no_files(rt: HostRuntime) {
-    let mut said = Vec::new(rt.alloc());
-    let mut host = StdHost::new(b"".as_slice(), &mut said);
-    assert!(rt; host.length(0).is_err());
-    assert!(rt; host.read_at(0, 0, &mut [0]).is_err());
-    assert!(rt; host.write_at(0, 0, &[0]).is_err());
-    assert!(rt; host.sync(0).is_err());
-}
-
-/// Plays a short script into room that is there from the start.
-fn short_script(alloc: Global) -> Result<(Status, Vec<u8>), AllocError> {
-    let script =
-        b"1 START\n1 INSERT INTO KV VALUES (1,10)\n1 SELECT K FROM KV WHERE K > 0\n1 COMMIT\n";
-    let words = words_of(alloc, &["play"])?;
-    let mut said = Vec::with_capacity(alloc, 128)?;
-    let mut host = StdHost::new(script.as_slice(), &mut said);
-    let status = run(alloc, words.as_slice(), &mut host);
-    Ok((status, said))
-}
-
-/// With ample memory the first outcome comes. Run with one allocation failing, in turn each, it shows that each answer other
-/// than want of memory stays as it is.
-#[test]
-fn want_of_memory_has_its_answer(rt: HostRuntime) {
-    let cases: [(Status, &[u8]); 8] = [
-        (
-            Status::Done,
-            b"1 OK\n1 DONE 1\n1 ROW 1\n1 ROWS 1\n1 COMMITTED 1\n",
-        ),
-        (
-            Status::Done,
-            b"1 OK\n1 REFUSED MEMORY\n1 ROWS 0\n1 ENDED 0\n",
-        ),
-        (
-            Status::Done,
-            b"1 OK\n1 DONE 1\n1 REFUSED MEMORY\n1 COMMITTED 1\n",
-        ),
-        (
-            Status::Done,
-            b"1 OK\n1 DONE 1\n1 ROW 1\n1 ROWS 1\n1 REFUSED MEMORY\n",
-        ),
-        (Status::NoMemory, b""),
-        (Status::NoMemory, b"1 OK\n"),
-        (Status::NoMemory, b"1 OK\n1 DONE 1\n"),
-        (Status::NoMemory, b"1 OK\n1 DONE 1\n1 ROW 1\n1 ROWS 1\n"),
-    ];
-    // Where the memory of the test itself fails, there is nothing to see.
-    let Ok((status, said)) = short_script(rt.alloc()) else {
-        return;
-    };
-    let is_lawful = cases.iter().any(|(ended, text)| *ended == status && *text == said.as_slice());
-    assert!(rt; is_lawful, "{status:?}");
 }

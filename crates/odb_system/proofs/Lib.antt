@@ -1,1 +1,3 @@
-pub mod Simulates
+mod Sealing
+mod Resting
+mod Simulates

@@ -1,11 +1,11 @@
 -- What a system holds, how its calls change it, and which machine it stands for.
-use Rattle.std.specs.Prelude.{◌≡◌, ◌≢◌, ℕ, ◌+◌, ◌-◌, false, List, [], ◌∷◌, ◌++◌, length, map, Option, Some, None, option_map, slice_get, slice_set, unwrap_or}
+use Rattle.std.specs.Prelude.{◌≡◌, ◌≢◌, ℕ, ◌+◌, ◌-◌, ◌<◌, ◌≤◌, Bool, true, false, drop, List, [], ◌∷◌, ◌++◌, length, map, Option, Some, None, option_map, slice_get, slice_set, unwrap_or}
 use Rattle.odb_values.specs.declared.range.Range.{Range}
 use Rattle.odb_model.specs.declared.write.Write.{Write}
 use Rattle.odb_model.specs.declared.entry.Entry.{Entry}
 use Rattle.odb_model.specs.declared.outcome.Read.{Read}
 use Rattle.odb_model.specs.declared.reply.Reply.{Reply}
-use Rattle.odb_model.specs.declared.reply.Reply.TheVariants.{Okay, Committed, Ended, NoTransaction, InTransaction, Conflict, Memory}
+use Rattle.odb_model.specs.declared.reply.Reply.TheVariants.{Okay, Committed, Ended, InDoubt, NoTransaction, InTransaction, Halted, Conflict, Full, Fault, Memory}
 use Rattle.odb_model.specs.declared.statement.Statement.{Statement}
 use Rattle.odb_model.specs.declared.statement.Statement.TheVariants.{Start, Commit, Select, Insert}
 use Rattle.odb_model.specs.State.{after_writes, replay}
@@ -15,7 +15,14 @@ use Rattle.odb_model.specs.Transaction.{Exchange, places, own_writes, reads_of, 
 use Rattle.odb_model.specs.Script.{IsSession}
 use Rattle.odb_model.specs.declared.event.Event.{Event}
 use Rattle.odb_model.specs.declared.event.Event.TheVariants.{Session}
-use Rattle.odb_model.specs.Machine.{Machine, Step}
+use Rattle.odb_model.specs.Machine.{Machine, Side, Step}
+use Rattle.odb_model.specs.State.{IsHistory}
+use Rattle.odb_model.specs.Storable.{AreStorable, IsStorableList}
+use Rattle.odb_model.specs.Width.{record_width, records_width}
+use Rattle.std.specs.List.{All}
+use Rattle.odb_transdb.specs.declared.header.Header.{Header}
+use Rattle.odb_transdb.specs.Header.{side_size, first_held, active_first}
+use Rattle.odb_transdb.specs.Standing.{Db, IsPlaced, room_of}
 use Rattle.odb_model.specs.Serial.{IsFaithful}
 
 -- an open transaction: what it has read, and what it has written
@@ -23,10 +30,38 @@ pub record Open : Type 0 where
   pub reads : List Read
   pub own : List Write
 
--- a history, and session s at place s - 1
+-- a history, session s at place s - 1, the log that keeps the history, and the entry that may be in the log besides
 pub record Held : Type 0 where
   pub history : List Entry
   pub sessions : List (Option Open)
+  pub transdb : Db
+  pub in_doubt : Option Entry
+
+-- what is asked of an open transaction: its writes can be stored as one entry
+abbrev pub IsOpen : Option Open → Type 0
+IsOpen None = Unit {0}
+IsOpen (Some t) = AreStorable t.own
+
+-- The log holds just this history: the entries from 1 on, and its next record is the next entry's. The records of those on the active
+-- side fill it up to the place of the next
+pub record Begins (db : Db) (h : List Entry) : Type 0 where
+  pub numbered : IsHistory h
+  pub first : first_held db.header ≡ 1
+  pub next : length h + 1 ≡ db.active.next
+  pub filled : records_width (drop (active_first db.header - 1) h) ≡ db.active.place - db.active.start
+  pub usable : db.active.in_doubt ≡ false
+  pub placed : IsPlaced db
+
+-- where no entry is in doubt the log goes on; else it is known to hold no more than the history and that entry
+abbrev pub IsAsDoubted : Db → List Entry → Option Entry → Type 0
+IsAsDoubted db h None = Begins db h
+IsAsDoubted db h (Some e) = IsHistory h × (first_held db.header ≡ 1) × (e.number ≡ length h + 1)
+
+pub record IsHeld (held : Held) : Type 0 where
+  pub count : length held.sessions ≡ 64
+  pub numbered : IsHistory held.history
+  pub log : IsAsDoubted held.transdb held.history held.in_doubt
+  pub each : All IsOpen held.sessions
 
 -- a session that is idle
 abbrev pub none_open : Option Open
@@ -41,10 +76,30 @@ with_open held at t = record held { sessions = slice_set held.sessions at t }
 abbrev pub at_number : ℕ → List Range → List Read
 at_number number ranges = map (λ range. record { range = range; number = number }) ranges
 
--- the next entry, of the session at a place, which is idle then
-abbrev pub with_next : Held → ℕ → List Write → Held
-with_next held at writes =
-    record (with_open held at None) { history = held.history ++ record { number = length held.history + 1; by = at + 1; writes = writes } ∷ [] }
+-- what the session at a place would add to the history with these writes
+abbrev pub next_of : Held → ℕ → List Write → Entry
+next_of held at writes = record { number = length held.history + 1; by = at + 1; writes = writes }
+
+-- that is the next entry, its record is in the log, and the session is idle
+pub record IsSealed (held : Held) (at : ℕ) (writes : List Write) (after : Held) : Type 0 where
+  pub history : after.history ≡ held.history ++ next_of held at writes ∷ []
+  pub sessions : after.sessions ≡ (with_open held at None).sessions
+  pub header : after.transdb.header ≡ held.transdb.header
+  pub in_doubt : after.in_doubt ≡ None
+
+-- it isn't known whether it is, and the session is idle
+pub record IsDoubted (held : Held) (at : ℕ) (writes : List Write) (after : Held) : Type 0 where
+  pub history : after.history ≡ held.history
+  pub sessions : after.sessions ≡ (with_open held at None).sessions
+  pub header : after.transdb.header ≡ held.transdb.header
+  pub in_doubt : after.in_doubt ≡ Some (next_of held at writes)
+
+-- all is as before, but for what the log knows of its tail
+pub record IsAsBefore (held after : Held) : Type 0 where
+  pub history : after.history ≡ held.history
+  pub sessions : after.sessions ≡ held.sessions
+  pub header : after.transdb.header ≡ held.transdb.header
+  pub in_doubt : after.in_doubt ≡ held.in_doubt
 
 -- what a statement means in an open transaction
 abbrev pub meaning_in : Held → Statement → Open → Meaning
@@ -69,16 +124,47 @@ HeldExecutes held at st None reply after = ⊥
 HeldExecutes held at st (Some t) reply after =
     (reply ≡ (meaning_in held st t).reply) × (after ≡ with_open held at (Some (grown held st t)))
 
-abbrev pub HeldCommits : Held → ℕ → Option Open → Reply → Held → Type 0
-HeldCommits held at None NoTransaction after = after ≡ held
-HeldCommits held at (Some t) (Conflict j) after = (first_conflict t.reads held.history ≡ Some j) × (after ≡ with_open held at None)
-HeldCommits held at (Some t) (Ended p) after =
+-- writes that may become the next entry
+pub record CanSeal (held : Held) (writes : List Write) : Type 0 where
+  pub some : writes ≢ []
+  pub storable : IsStorableList writes
+
+-- the bytes of the record of that entry
+abbrev pub need_of : Held → ℕ → List Write → ℕ
+need_of held at writes = record_width (next_of held at writes)
+
+-- the record is forced, or why it isn't
+abbrev pub HeldSeals : Held → ℕ → List Write → Reply → Held → Type 0
+HeldSeals held at writes Memory after = after ≡ held
+HeldSeals held at writes (Full need room) after =
+    (need ≡ need_of held at writes) × (room ≡ room_of held.transdb) × (room < need) × (after ≡ held)
+HeldSeals held at writes (Fault f) after = (need_of held at writes ≤ room_of held.transdb) × (f ≡ 0) × IsAsBefore held after
+HeldSeals held at writes (InDoubt k) after =
+    (need_of held at writes ≤ room_of held.transdb) × (k ≡ length held.history + 1) × IsDoubted held at writes after
+HeldSeals held at writes (Committed k) after =
+    (need_of held at writes ≤ room_of held.transdb) × (k ≡ length held.history + 1) × IsSealed held at writes after
+HeldSeals held at writes reply after = ⊥
+
+-- COMMIT of an open transaction where no entry is in doubt
+abbrev pub HeldDecides : Held → ℕ → Open → Reply → Held → Type 0
+HeldDecides held at t (Conflict j) after = (first_conflict t.reads held.history ≡ Some j) × (after ≡ with_open held at None)
+HeldDecides held at t (Ended p) after =
     (first_conflict t.reads held.history ≡ None) × (net (replay held.history) t.own ≡ []) × (p ≡ length held.history) × (after ≡ with_open held at None)
-HeldCommits held at (Some t) (Committed k) after =
-    (first_conflict t.reads held.history ≡ None) × (net (replay held.history) t.own ≢ []) × (k ≡ length held.history + 1)
-    × (after ≡ with_next held at (net (replay held.history) t.own))
+HeldDecides held at t reply after =
+    (first_conflict t.reads held.history ≡ None) × (net (replay held.history) t.own ≢ []) × HeldSeals held at (net (replay held.history) t.own) reply after
+
+-- COMMIT of an open transaction
+abbrev pub HeldDecidesBy : Option Entry → Held → ℕ → Open → Reply → Held → Type 0
+HeldDecidesBy None held at t reply after = HeldDecides held at t reply after
+HeldDecidesBy (Some e) held at t (Halted k) after = (k ≡ e.number) × (after ≡ held)
+HeldDecidesBy (Some e) held at t reply after = ⊥
+
+-- COMMIT
+abbrev pub HeldCommits : Held → ℕ → Option Open → Reply → Held → Type 0
 HeldCommits held at t Memory after = after ≡ held
-HeldCommits held at t reply after = ⊥
+HeldCommits held at None NoTransaction after = after ≡ held
+HeldCommits held at None reply after = ⊥
+HeldCommits held at (Some t) reply after = HeldDecidesBy held.in_doubt held at t reply after
 
 -- one statement of the session at a place
 abbrev pub HeldRuns : Held → ℕ → Statement → Reply → Held → Type 0
@@ -91,9 +177,16 @@ HeldRuns held at (Insert table tuples) reply after = HeldExecutes held at (Inser
 abbrev pub open_of : List Entry → List Exchange → Open
 open_of h t = record { reads = reads_of h t; own = own_writes h t }
 
--- the system stands for the machine: the same history, and for each session the reads and writes of its transaction
+-- the side that takes new records, as a machine sees it
+abbrev pub side_of : Header → Side
+side_of h = record { size = side_size h; first = active_first h }
+
+-- The system stands for the machine: the same history, side and entry in doubt, and for each session the reads and writes of its
+-- transaction
 pub record StandsFor (held : Held) (m : Machine) : Type 0 where
   pub history : held.history ≡ m.history
+  pub side : m.side ≡ side_of held.transdb.header
+  pub in_doubt : held.in_doubt ≡ m.in_doubt
   pub count : length held.sessions ≡ 64
   pub each : (s : ℕ) → IsSession s → slice_get held.sessions (s - 1) ≡ Some (option_map (open_of m.history) (m.sessions s))
   pub faithful : IsFaithful m
@@ -102,8 +195,11 @@ pub record StandsFor (held : Held) (m : Machine) : Type 0 where
 abbrev pub IsOfSession : Event → Type 0
 IsOfSession (Session s st) = IsSession s
 
--- from the machine m the event got this reply by a step in which no file is used, and the system stands for the machine after it
-pub record Follows (m : Machine) (event : Event) (reply : Reply) (held : Held) : Type 0 where
+-- From the machine m the event got this reply by a step, and the system stands for the machine after it. A file's count rose in the
+-- step only where `rose` tells so
+pub record Follows (rose : ℕ → Type 0) (m : Machine) (event : Event) (reply : Reply) (held : Held) : Type 0 where
+  pub risen : ℕ → Bool
+  pub cause : (file : ℕ) → risen file ≡ true → rose file
   pub after : Machine
-  pub step : Step m event (λ _. false) reply after
+  pub step : Step m event risen reply after
   pub stands : StandsFor held after

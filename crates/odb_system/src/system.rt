@@ -1,87 +1,123 @@
-ghost use Rattle.std.specs.Prelude.{◌≡◌, ◌<◌, ◌+◌, length, replicate, IfOk, OnOk, OnErr, IsTrue};
+ghost use Rattle.std.specs.Prelude.{◌≡◌, ◌<◌, replicate, None, IfOk, OnOk, OnErr, IsTrue};
+ghost use Rattle.odb_device.specs.World.{file_of};
+ghost use Rattle.odb_device.specs.Moments.{Runs};
 ghost use Rattle.odb_system.specs.Held.{none_open};
-ghost use Rattle.odb_model.specs.State.{IsHistory};
 ghost use Rattle.odb_model.specs.Meaning.{is_built};
 ghost use Rattle.odb_model.specs.Script.{IsSession};
 
 use crate::SystemError;
 use crate::transaction::Transaction;
+use odb_codec::encode_entry;
 use odb_device::Host;
 use odb_model::{Entries, Entry, Event, Outcome, Reply, Statement, Writes};
 use odb_plain::{execute, first_conflict, is_built, net_writes};
+use odb_transdb::{Transdb, TransdbError};
 use odb_values::List;
 use std::alloc::{AllocError, Global};
 use std::marker::Model;
 
-/// One history, and for each session its open transaction.
+/// One history, the log that keeps it, and for each session its open transaction.
 #[derive(Debug, Drop)]
 pub struct System {
     history: List<Entry>,
     sessions: Vec<Option<Transaction>>,
+    /// The log of commits, which has each entry of the history.
+    transdb: Transdb,
+    /// The entry whose record may be in the log, since a fault from its gate on.
+    in_doubt: Option<Entry>,
 }
 
 impl Model for System {
-    ghost use Rattle.std.specs.Prelude.{◌≡◌, length};
-    ghost use Rattle.odb_model.specs.State.{IsHistory};
-    ghost use Rattle.odb_system.specs.Held.{Held};
+    ghost use Rattle.odb_system.specs.Held.{Held, IsHeld};
 
     ghost Value = { Held };
 
-    ghost view = { λ a. record { history = a.history.items; sessions = a.sessions.items } };
+    ghost view = { λ a. record { history = a.history.items; sessions = a.sessions.items; transdb = a.transdb; in_doubt = a.in_doubt } };
 
-    ghost invariant = { λ a. (length a.sessions.items ≡ 64) × IsHistory a.history.items };
+    ghost invariant = { λ a. IsHeld (record { history = a.history.items; sessions = a.sessions.items; transdb = a.transdb; in_doubt = a.in_doubt }) };
 }
 
 impl System {
     ghost use Rattle.odb_model.specs.declared.event.Event.TheVariants.{Session};
     ghost use Rattle.odb_model.specs.Machine.{Machine, first_machine};
-    ghost use Rattle.odb_system.specs.Held.{session_at, HeldStarts, HeldExecutes, HeldCommits, HeldRuns, with_next, StandsFor, IsOfSession, Follows};
+    ghost use Rattle.odb_system.specs.Held.{session_at, side_of, Begins, HeldStarts, HeldExecutes, HeldCommits, HeldSeals, HeldRuns, CanSeal, StandsFor, IsOfSession, Follows};
+    ghost use Rattle.odb_system.specs.Durable.{IsDurable, HoldsThroughout, Risen, FaultRose};
+    ghost use Rattle.odb_system.specs.Room.{AgreesOnRoom};
 
-    /// The machine that begins with these entries; all sessions are idle.
-    pub fn start(alloc: Global, entries: Entries) -> Result<System, SystemError>
-        requires { IsHistory entries }
-        ensures { IfOk result (λ system. StandsFor system (first_machine entries)) }
+    /// The machine that begins with these entries, all that the log holds; all sessions are idle. It makes no call of a store.
+    pub fn start(alloc: Global, transdb: Transdb, entries: Entries) -> Result<System, SystemError>
+        requires { Begins transdb entries }
+        ensures stands { IfOk result (λ system. StandsFor system (first_machine (side_of transdb.header) entries)) }
+        ensures history { IfOk result (λ system. (system.history ≡ entries) × (system.transdb ≡ transdb)) }
     {
         Ok(System {
             history: entries.into_list(),
             sessions: idle_sessions(alloc)?,
+            transdb,
+            in_doubt: None,
         })
     }
 
     /// One step of the machine: the reply to a statement of a session. Want of memory is the reply `Memory`.
     ///
-    /// It uses nothing of the host yet. A SELECT or an INSERT goes over the whole history once, a COMMIT over the
-    /// entries since the transaction's first read.
+    /// A COMMIT that leaves writes forces its record: two syncs and three writes of file 0 where the log's tail is clear. At each
+    /// moment a crash leaves the history before the step, or the one after it. No other statement makes a call of the host. A
+    /// SELECT or an INSERT goes over the whole history once, a COMMIT over the entries since the transaction's first read.
     pub fn step<H: Host>(&mut self, alloc: Global, host: &mut H, event: &Event) -> Reply
-        requires { IsOfSession event.now }
-        ensures step { (m : Machine) → StandsFor self.old m → Follows m event.now result self.new }
-        ensures host { H.world host.new ≡ H.world host.old }
+        requires session { IsOfSession event.now }
+        requires durable { IsDurable self.old (file_of 0 (H.world host.old)) }
+        ensures step { (m : Machine) → StandsFor self.old m → Follows (Risen (H.world host.old) (H.world host.new)) m event.now result self.new }
+        ensures run { Runs 0 (HoldsThroughout self.old self.new) (H.world host.old) (H.world host.new) }
+        ensures durable { IsDurable self.new (file_of 0 (H.world host.new)) }
+        ensures same { self.new.transdb.header ≡ self.old.transdb.header }
     {
         match event {
-            Event::Session { session, statement } => self.ask(alloc, *session, statement),
+            Event::Session { session, statement } => self.ask(alloc, host, *session, statement),
         }
     }
 
     /// A statement of this session.
-    fn ask(&mut self, alloc: Global, session: u32, statement: &Statement) -> Reply
-        requires { IsSession session }
-        ensures { (m : Machine) → StandsFor self.old m → Follows m (Session session statement.now) result self.new }
+    fn ask<H: Host>(
+        &mut self,
+        alloc: Global,
+        host: &mut H,
+        session: u32,
+        statement: &Statement,
+    ) -> Reply
+        requires session { IsSession session }
+        requires durable { IsDurable self.old (file_of 0 (H.world host.old)) }
+        ensures step { (m : Machine) → StandsFor self.old m → Follows (Risen (H.world host.old) (H.world host.new)) m (Session session statement.now) result self.new }
+        ensures run { Runs 0 (HoldsThroughout self.old self.new) (H.world host.old) (H.world host.new) }
+        ensures durable { IsDurable self.new (file_of 0 (H.world host.new)) }
+        ensures same { self.new.transdb.header ≡ self.old.transdb.header }
     {
         if !is_built(statement) {
             return Reply::NotYet;
         }
-        self.run(alloc, session as usize - 1, statement)
+        self.run(alloc, host, session as usize - 1, statement)
     }
 
     /// A statement of the session at this place.
-    fn run(&mut self, alloc: Global, at: usize, statement: &Statement) -> Reply
+    fn run<H: Host>(
+        &mut self,
+        alloc: Global,
+        host: &mut H,
+        at: usize,
+        statement: &Statement,
+    ) -> Reply
         requires place { at < 64 }
         requires built { IsTrue (is_built statement.now) }
-        ensures { HeldRuns self.old at statement.now result self.new }
+        requires durable { IsDurable self.old (file_of 0 (H.world host.old)) }
+        ensures step { HeldRuns self.old at statement.now result self.new }
+        ensures room { AgreesOnRoom result self.old }
+        ensures fault { FaultRose result (H.world host.old) (H.world host.new) }
+        ensures run { Runs 0 (HoldsThroughout self.old self.new) (H.world host.old) (H.world host.new) }
+        ensures durable { IsDurable self.new (file_of 0 (H.world host.new)) }
+        ensures same { self.new.transdb.header ≡ self.old.transdb.header }
     {
         match statement {
             Statement::Start => self.start_transaction(alloc, at),
-            Statement::Commit => self.commit(alloc, at),
+            Statement::Commit => self.commit(alloc, host, at),
             Statement::Select { .. } | Statement::Insert { .. } => {
                 self.execute(alloc, at, statement)
             }
@@ -126,9 +162,15 @@ impl System {
         reply
     }
 
-    fn commit(&mut self, alloc: Global, at: usize) -> Reply
-        requires { at < 64 }
-        ensures { HeldCommits self.old at (session_at self.old at) result self.new }
+    fn commit<H: Host>(&mut self, alloc: Global, host: &mut H, at: usize) -> Reply
+        requires place { at < 64 }
+        requires durable { IsDurable self.old (file_of 0 (H.world host.old)) }
+        ensures step { HeldCommits self.old at (session_at self.old at) result self.new }
+        ensures room { AgreesOnRoom result self.old }
+        ensures fault { FaultRose result (H.world host.old) (H.world host.new) }
+        ensures run { Runs 0 (HoldsThroughout self.old self.new) (H.world host.old) (H.world host.new) }
+        ensures durable { IsDurable self.new (file_of 0 (H.world host.new)) }
+        ensures same { self.new.transdb.header ≡ self.old.transdb.header }
     {
         if self.sessions[at].is_none() {
             return Reply::NoTransaction;
@@ -137,6 +179,9 @@ impl System {
         let Some(transaction) = &self.sessions[at] else {
             return Reply::NoTransaction;
         };
+        if let Some(entry) = &self.in_doubt {
+            return Reply::Halted(entry.number);
+        }
         if let Some(later) = first_conflict(self.history.as_slice(), transaction.reads()) {
             self.sessions[at] = None;
             return Reply::Conflict(later);
@@ -148,29 +193,64 @@ impl System {
             self.sessions[at] = None;
             return Reply::Ended(number);
         }
-        match self.append(at, writes) {
-            Ok(number) => Reply::Committed(number),
-            Err(_) => Reply::Memory,
-        }
+        self.seal(alloc, host, at, writes)
     }
 
-    /// Makes the writes of the session at this place the next entry, answers its number, and ends the transaction.
-    fn append(&mut self, at: usize, writes: Writes) -> Result<u64, AllocError>
-        requires { at < 64 }
-        ensures number { IfOk result (λ number. number ≡ length self.old.history + 1) }
-        ensures entry { OnOk result (self.new ≡ with_next self.old at writes) }
-        ensures err { OnErr result (self.new ≡ self.old) }
+    /// Forces an entry of these writes, of the session at this place: what COMMIT answers where nothing else stands against it.
+    ///
+    /// All memory is taken before a byte is written, so a commit that was begun can't fail for want of it.
+    fn seal<H: Host>(&mut self, alloc: Global, host: &mut H, at: usize, writes: Writes) -> Reply
+        requires place { at < 64 }
+        requires settled { self.old.in_doubt ≡ None }
+        requires writes { CanSeal self.old writes }
+        requires durable { IsDurable self.old (file_of 0 (H.world host.old)) }
+        ensures step { HeldSeals self.old at writes result self.new }
+        ensures room { AgreesOnRoom result self.old }
+        ensures fault { FaultRose result (H.world host.old) (H.world host.new) }
+        ensures run { Runs 0 (HoldsThroughout self.old self.new) (H.world host.old) (H.world host.new) }
+        ensures durable { IsDurable self.new (file_of 0 (H.world host.new)) }
+        ensures same { self.new.transdb.header ≡ self.old.transdb.header }
     {
-        self.history.reserve()?;
-        let number = self.history.as_slice().len() as u64 + 1;
-        self.history.push(Entry {
-            number,
+        if reserve_place(&mut self.history).is_err() {
+            return Reply::Memory;
+        }
+        let entry = Entry {
+            number: self.history.as_slice().len() as u64 + 1,
             by: at as u32 + 1,
             writes,
-        });
-        self.sessions[at] = None;
-        Ok(number)
+        };
+        let Ok(image) = encode_entry(alloc, &entry) else {
+            return Reply::Memory;
+        };
+        match self.transdb.force(host, image.as_slice()) {
+            Ok(number) => {
+                self.history.push(entry);
+                self.sessions[at] = None;
+                Reply::Committed(number)
+            }
+            Err(error) => match error {
+                TransdbError::Full { need, room } => Reply::Full { need, room },
+                TransdbError::InDoubt { number } => {
+                    self.in_doubt = Some(entry);
+                    self.sessions[at] = None;
+                    Reply::InDoubt(number)
+                }
+                _ => Reply::Fault(0),
+            },
+        }
     }
+}
+
+/// Reserves a place for one more entry, where none is reserved yet. The error is want of memory.
+fn reserve_place(history: &mut List<Entry>) -> Result<(), AllocError>
+    ensures items { history.new.items ≡ history.old.items }
+    ensures ok { OnOk result (0 < history.new.spare) }
+    ensures err { OnErr result (history.new ≡ history.old) }
+{
+    if history.spare() == 0 {
+        history.reserve()?;
+    }
+    Ok(())
 }
 
 /// The 64 sessions, all of them idle.

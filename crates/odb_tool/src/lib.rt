@@ -1,11 +1,9 @@
-//! The top call of the product, and the host of its program.
+//! The top call of the product.
 //!
-//! [`run`] does all that the program does, and its contract is the theorem of the whole. [`StdHost`] is the host over
-//! a reader and a writer of std.
+//! [`run`] does all that the program does, and its contract is the theorem of the whole.
 #![tactic(auto)]
 
 mod command;
-mod std_host;
+mod create;
 
 pub use command::run;
-pub use std_host::StdHost;

@@ -1,13 +1,25 @@
-use Rattle.std.proofs.Common.{[]}
 use Rattle.odb_model.specs.Machine.{first_machine}
-use Rattle.odb_play.proofs.Playing.{never_begins}
+use Rattle.odb_system.specs.Held.{side_of}
+use Rattle.odb_play.proofs.Starting.{played_from, outcome_played, opening_played, no_file_fault}
 use Rattle.odb_play.proofs.script.play.Goals as goal
 
-pub returns-clause-played : goal.returns-clause-played
-returns-clause-played g c = c.play_on.ensures.played (first_machine []) c.in-Ok.ensures.system c.in-Ok.ensures.kept
+pub returns-in-Ok-clause-played : goal.returns-in-Ok-clause-played
+returns-in-Ok-clause-played g c =
+    let held = c.in-Ok.player.system in
+    let played = c.play_on.ensures.played (first_machine (side_of held.transdb.header) held.history) c.in-Ok.ensures.started.stands c.in-Ok.ensures.kept in
+    outcome_played c.play_on.result (g.H.Outside.world c.args.host.now) (g.H.Outside.world c.play_on.new.host)
+    (played_from held c.play_on.result (g.H.Outside.world c.args.host.now) (g.H.Outside.world c.open_player.new.host) (g.H.Outside.world c.play_on.new.host)
+    c.open_player.ensures.run c.in-Ok.ensures.started played)
 
-pub returns-in_default-clause-played : goal.returns-in_default-clause-played
-returns-in_default-clause-played g c = never_begins (first_machine []) (g.H.Outside.world c.args.host.now)
+pub returns-in-Ok-clause-opened : goal.returns-in-Ok-clause-opened
+returns-in-Ok-clause-opened g c =
+    let held = c.in-Ok.player.system in
+    let played = c.play_on.ensures.played (first_machine (side_of held.transdb.header) held.history) c.in-Ok.ensures.started.stands c.in-Ok.ensures.kept in
+    opening_played held (first_machine (side_of held.transdb.header) held.history) c.play_on.result
+    (g.H.Outside.world c.args.host.now) (g.H.Outside.world c.open_player.new.host) (g.H.Outside.world c.play_on.new.host) c.in-Ok.ensures.started played
 
-pub returns-in_default-vec-clause-played : goal.returns-in_default-vec-clause-played
-returns-in_default-vec-clause-played g c = never_begins (first_machine []) (g.H.Outside.world c.args.host.now)
+pub returns-in-Ok-clause-file_fault : goal.returns-in-Ok-clause-file_fault
+returns-in-Ok-clause-file_fault g c = λ file same.
+    let held = c.in-Ok.player.system in
+    let played = c.play_on.ensures.played (first_machine (side_of held.transdb.header) held.history) c.in-Ok.ensures.started.stands c.in-Ok.ensures.kept in
+    absurd (no_file_fault (first_machine (side_of held.transdb.header) held.history) c.play_on.result file (g.H.Outside.world c.open_player.new.host) (g.H.Outside.world c.play_on.new.host) played same)

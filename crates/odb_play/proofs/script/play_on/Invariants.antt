@@ -1,8 +1,10 @@
 use Rattle.std.proofs.Common.{◌≡◌, ◌-◌, ◌≤◌, ◌<◌, [], length}
-use Rattle.odb_device.specs.Console.{Talks}
+use Rattle.odb_device.specs.World.{file_of}
 use Rattle.odb_model.specs.Machine.{Machine}
 use Rattle.odb_model.specs.Play.{most_input}
 use Rattle.odb_system.specs.Held.{StandsFor}
+use Rattle.odb_system.specs.Durable.{IsDurable}
+use Rattle.odb_play.specs.Outside.{TouchesOnly}
 use Rattle.odb_play.proofs.Playing.{IsPlaying}
 use Rattle.odb_play.proofs.script.play_on.Given as goal
 
@@ -10,8 +12,10 @@ abbrev pub invariant-loop-taken : goal.invariant-loop-taken
 invariant-loop-taken g l = record {
   few : l.taken ≤ most_input;
   room : 0 < length l.piece;
-  talks : Talks (g.H.Outside.world l.fn.host) (g.H.Outside.world l.host);
-  playing : (m : Machine) → StandsFor l.fn.player.system m → l.fn.player.kept.items ≡ [] → IsPlaying m l.player.system l.player.kept.items l.taken (g.H.Outside.world l.fn.host) (g.H.Outside.world l.host);
+  only : TouchesOnly 0 (g.H.Outside.world l.fn.host) (g.H.Outside.world l.host);
+  durable : IsDurable l.player.system (file_of 0 (g.H.Outside.world l.host));
+  playing : (m : Machine) → StandsFor l.fn.player.system m → l.fn.player.kept.items ≡ []
+      → IsPlaying l.fn.player.system.transdb.header m l.player.system l.player.kept.items l.taken (g.H.Outside.world l.fn.host) (g.H.Outside.world l.host);
 }
 
 abbrev pub decreases-loop-taken : goal.decreases-loop-taken

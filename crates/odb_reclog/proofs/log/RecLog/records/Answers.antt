@@ -1,16 +1,17 @@
-use Rattle.std.proofs.Common.{◌≡◌, ◌⊎◌, inl, inr, ◌+◌, ◌<◌, ◌≤◌, ◌≢◌, length, None, Some, Option, sym, subst, arith, List, ℕ}
+use Rattle.std.proofs.Common.{◌≡◌, ◌+◌, ◌≤◌, length, None, Some, Option, sym, subst, List, ℕ}
 use Rattle.std.specs.Prelude.{IfSome}
+use Rattle.std.proofs.lemmas.Bool.{false≢true}
 use Rattle.odb_device.specs.Images.{part}
 use Rattle.odb_device.specs.World.{File, file_of}
 use Rattle.odb_device.proofs.Time.{run_end}
-use Rattle.odb_reclog.specs.Records.{OPEN, HEAD, log_of, IsPlaceIn}
+use Rattle.odb_reclog.specs.Records.{HEAD, log_of, IsPlaceIn}
 use Rattle.odb_reclog.specs.Reading.{head_at}
 use Rattle.odb_reclog.specs.Standing.{Log}
 use Rattle.odb_reclog.specs.contracts.log.RecLog.{the_view}
-use Rattle.odb_reclog.proofs.Recorded.{IsRecordIn, IsAsked, none_at_end, in_order, head_in_order, head_there, order_kept, record_found, next_found}
+use Rattle.odb_reclog.proofs.Recorded.{IsRecordIn, IsAsked, Fits, none_at_end, in_order, head_in_order, head_there, order_kept, record_found, next_found}
 use Rattle.odb_reclog.proofs.log.RecLog.records.Given.{Over}
 use Rattle.odb_reclog.proofs.log.RecLog.records.Goals as goal
-use Rattle.odb_reclog.proofs.log.RecLog.records.Goals.{After-self, After-end_from-next, then-head-via-then-head, then-head-via-else-head+then-head-self, then-head-via-else-head+else-head-self+then-head-self-2, then-head-via-else-head+else-head-self+else-head-self-2+then-next-self}
+use Rattle.odb_reclog.proofs.log.RecLog.records.Goals.{After-self, After-end_from-next}
 use Rattle.odb_reclog.specs.declared.head.Head.{Head}
 
 -- the log by its fields
@@ -52,23 +53,18 @@ head_read g c a =
     subst (λ (found : Option Head). IfSome o (λ f. found ≡ Some (head_at c.args.at f.bytes))) c.in-Some.is
     (head_in_order log c.args.at o c.in_ok-head.field-0 (in_order log c.args.at o a c.if-at-self.false) c.in_ok-head.ensures.head)
 
-pub returns-then-head-clause-record : goal.returns-then-head-clause-record
-returns-then-head-clause-record g c =
+pub returns-then-not-is_in_order-clause-record : goal.returns-then-not-is_in_order-clause-record
+returns-then-not-is_in_order-clause-record g c =
     let w = g.S.Outside.world c.args.store.now in
     let o = file_of c.self.inside.file w in
     let log = the_view c.self.inside in
     let head = c.in-Some.head in
-    let a = asked g (goal.at.returns-then-head-clause-record g c).After-self in
-    let broken : (head.gate ≢ OPEN) ⊎ (head.number < c.self.inside.first) ⊎ (c.self.inside.next ≤ head.number) ⊎ (c.self.inside.place < c.args.at + HEAD + head.size) =
-    elim c.then-head.branch [
-      | then-head-via-then-head s ↦ inl s.if-head.true
-      | then-head-via-else-head+then-head-self s ↦ inr (inl s.if-head-self.true)
-      | then-head-via-else-head+else-head-self+then-head-self-2 s ↦ inr (inr (inl s.if-head-self-2.true))
-      | then-head-via-else-head+else-head-self+else-head-self-2+then-next-self s ↦ inr (inr (inr (omega (arith, s.if-next-self.true))))
-    ] in
+    let a = asked g (goal.at.returns-then-not-is_in_order-clause-record g c).After-self in
     subst (λ (l : Log). IsRecordIn l c.args.at None (file_of l.file w)) c.self.view_is
-    (order_kept log c.args.at o head (in_order log c.args.at o a c.if-at-self.false)
-    (head_read g (goal.at.returns-then-head-clause-record g c).After-end_from-next a) broken)
+    (order_kept log c.args.at o head c.end_from-next.result (in_order log c.args.at o a c.if-at-self.false)
+    (head_read g (goal.at.returns-then-not-is_in_order-clause-record g c).After-end_from-next a) c.end_from-next.ensures
+    (subst (λ (l : Log). Fits l head c.end_from-next.result → ⊥) (sym c.self.view_is)
+    (λ fits. absurd (false≢true (c.if-not-is_in_order.ensures.1 fits)))))
 
 pub returns-in-Some-2-clause-record : goal.returns-in-Some-2-clause-record
 returns-in-Some-2-clause-record g c =

@@ -1,0 +1,16 @@
+pub mod Steps
+pub mod Texts
+pub mod Within
+pub mod Numbers
+pub mod Values
+pub mod Agree
+pub mod Keys
+pub mod Images
+pub mod Order
+pub mod Writes
+pub mod Entries
+pub mod Loop
+pub mod Decoding
+pub mod Lengths
+pub mod Putting
+pub mod Worked

@@ -1,0 +1,7 @@
+use Rattle.std.proofs.Common.{◌≡◌, length}
+use Rattle.std.specs.Io.KnownBytes.{Keeps}
+use Rattle.odb_folder.proofs.streams.read_once.Given as goal
+
+-- a read that was interrupted gave nothing
+abbrev pub invariant-loop : goal.invariant-loop
+invariant-loop g l = (length l.out ≡ length l.initial.out) × Keeps (g.R.Read.remaining l.initial.reader) (g.R.Read.remaining l.reader)

@@ -1,0 +1,4 @@
+pub mod Bytes
+pub mod Quoted
+pub mod Token
+pub mod Next

@@ -1,0 +1,128 @@
+-- What steps that make no call of the store leave of a system and of its file.
+use Rattle.std.proofs.Common.{◌≡◌, ◌≢◌, ℕ, ◌<◌, zero, suc, List, [], ◌∷◌, ◌++◌, length, replicate, Option, Some, None, refl, sym, ap, subst, ◌∙◌, inl, arith}
+use Rattle.std.specs.Prelude.{◌⊎◌, slice_get, slice_index_or, unwrap_or}
+use Rattle.std.specs.List.{All}
+use Rattle.std.proofs.lemmas.List.{length-set}
+use Rattle.std.proofs.lemmas.List.Elements.{All-set, All-replicate}
+use Rattle.odb_device.specs.World.{File, World, file_of}
+use Rattle.odb_device.specs.Images.{EachImage}
+use Rattle.odb_device.specs.Moments.{Runs}
+use Rattle.odb_device.proofs.Time.{begins}
+use Rattle.odb_model.specs.declared.write.Write.{Write}
+use Rattle.odb_model.specs.declared.entry.Entry.{Entry}
+use Rattle.odb_model.specs.declared.outcome.Outcome.{Outcome}
+use Rattle.odb_model.specs.declared.reply.Reply.{Reply}
+use Rattle.odb_model.specs.declared.reply.Reply.TheVariants.{Okay, InTransaction, Ended, NoTransaction, Conflict, Memory}
+use Rattle.odb_model.specs.declared.statement.Statement.{Statement}
+use Rattle.odb_model.specs.State.{after_writes, replay}
+use Rattle.odb_model.specs.Meaning.{meaning}
+use Rattle.odb_model.specs.Reads.{reads}
+use Rattle.odb_model.specs.Transaction.{places, net, first_conflict}
+use Rattle.odb_model.specs.Machine.{with_doubt}
+use Rattle.odb_transdb.specs.Opened.{Holds}
+use Rattle.odb_transdb.specs.Standing.{Db}
+use Rattle.odb_system.specs.Held.{Open, Held, IsOpen, IsHeld, Begins, none_open, with_open, at_number, meaning_in, grown, HeldStarts, HeldExecutes, HeldSeals, HeldDecidesBy, HeldCommits}
+use Rattle.odb_system.specs.Durable.{perhaps_of, IsDurable, IsDurableBy, HoldsThroughout}
+
+-- a system that begins
+pub held_first : (h : List Entry) (xs : List (Option Open)) (db : Db) → Begins db h → xs ≡ replicate 64 none_open
+    → IsHeld (record { history = h; sessions = xs; transdb = db; in_doubt = None })
+held_first h xs db begins same = record {
+  count = rw same refl;
+  numbered = begins.numbered;
+  log = begins;
+  each = subst (All IsOpen) (sym same) (All-replicate IsOpen 64 none_open tt);
+}
+
+-- a session's transaction begins, goes on or ends
+pub held_open : (held : Held) (at : ℕ) (t : Option Open) → IsHeld held → IsOpen t → IsHeld (with_open held at t)
+held_open held at t is fits = record {
+  count = length-set held.sessions at t ∙ is.count;
+  numbered = is.numbered;
+  log = is.log;
+  each = All-set IsOpen held.sessions at t fits is.each;
+}
+
+-- what was read at a place is the session there
+pub session_here : (xs : List (Option Open)) (at : ℕ) (x : Option Open) → at < length xs → x ≡ slice_index_or xs at x → unwrap_or (slice_get xs at) None ≡ x
+session_here [] at x within is = absurd (omega arith)
+session_here (y ∷ xs) zero x within is = sym is
+session_here (y ∷ xs) (suc at) x within is = session_here xs at x (omega arith) is
+
+-- the transaction there can be stored
+pub open_here : (held : Held) (at : ℕ) (x : Option Open) → IsHeld held → at < 64 → x ≡ slice_index_or held.sessions at x → IsOpen x
+open_here held at x is within here = subst IsOpen (sym here) (is.each at x (omega (arith, is.count)))
+
+-- all but the sessions is the same
+pub record SameLog (held after : Held) : Type 0 where
+  pub history : after.history ≡ held.history
+  pub transdb : after.transdb ≡ held.transdb
+  pub in_doubt : after.in_doubt ≡ held.in_doubt
+
+log_as : (held after is : Held) → after ≡ is → SameLog held is → SameLog held after
+log_as held after is same log = subst (SameLog held) (sym same) log
+
+pub starts_log : (held : Held) (at : ℕ) (t : Option Open) (reply : Reply) (after : Held) → HeldStarts held at t reply after → SameLog held after
+starts_log held at None Okay after step =
+    log_as held after (with_open held at (Some (record { reads = []; own = [] }))) step (record { history = refl; transdb = refl; in_doubt = refl })
+starts_log held at (Some t) InTransaction after step = log_as held after held step (record { history = refl; transdb = refl; in_doubt = refl })
+starts_log held at None reply after step = absurd step
+starts_log held at (Some t) reply after step = absurd step
+
+pub executes_log : (held : Held) (at : ℕ) (st : Statement) (t : Option Open) (reply : Reply) (after : Held) → HeldExecutes held at st t reply after → SameLog held after
+executes_log held at st t Memory after step = log_as held after held step (record { history = refl; transdb = refl; in_doubt = refl })
+executes_log held at st None NoTransaction after step = log_as held after held step (record { history = refl; transdb = refl; in_doubt = refl })
+executes_log held at st None reply after step = absurd step
+executes_log held at st (Some t) reply after step =
+    log_as held after (with_open held at (Some (grown held st t))) step.1 (record { history = refl; transdb = refl; in_doubt = refl })
+
+holds_by : (d : Option Entry) (held : Held) (file : Option File) → held.in_doubt ≡ d → IsDurableBy d held file → HoldsThroughout held held file
+holds_by None held None settled durable = tt
+holds_by None held (Some f) settled durable = λ image is. inl (subst (λ es. Holds held.transdb.header es image) durable.1 (durable.0.2 image is).holds)
+holds_by (Some e) held file settled durable = durable
+
+-- at rest each image is as throughout a step that changes nothing
+pub holds_resting : (held after : Held) (w : World) → SameLog held after → IsDurable held (file_of 0 w) → Runs 0 (HoldsThroughout held after) w w
+holds_resting held after w same durable =
+    let more : perhaps_of held ≡ perhaps_of after = λ i. with_doubt (sym same.history i) (sym same.in_doubt i) in
+    begins 0 (HoldsThroughout held after) w
+    (subst (λ (es : List Entry). EachImage (λ image. Holds held.transdb.header held.history image ⊎ Holds held.transdb.header es image) (file_of 0 w)) more
+    (holds_by held.in_doubt held (file_of 0 w) refl durable))
+
+durable_by : (d : Option Entry) (held : Held) (xs : List (Option Open)) (file : Option File) → IsDurableBy d held file → IsDurableBy d (record held { sessions = xs }) file
+durable_by None held xs file durable = durable
+durable_by (Some e) held xs file durable = durable
+
+pub durable_resting : (held after : Held) (file : Option File) → SameLog held after → IsDurable held file → IsDurable after file
+durable_resting held after file same durable =
+    let is : record held { sessions = after.sessions } ≡ after =
+    λ i. record { history = sym same.history i; sessions = after.sessions; transdb = sym same.transdb i; in_doubt = sym same.in_doubt i } in
+    subst (λ (x : Held). IsDurable x file) is (durable_by held.in_doubt held after.sessions file durable)
+
+-- the transaction after a statement, from what the plain program answers
+pub grown_is : (held : Held) (st : Statement) (t new : Open) (h : List Entry) (own : List Write) (number : ℕ) (outcome : Outcome) → h ≡ held.history → own ≡ t.own
+    → number ≡ length held.history → outcome.reads ≡ reads st (replay h) → outcome.writes ≡ (meaning st (after_writes (replay h) own) (places own)).writes
+    → new ≡ record { reads = t.reads ++ at_number number outcome.reads; own = t.own ++ outcome.writes } → new ≡ grown held st t
+grown_is held st t new h own number outcome h_is own_is number_is reads_is writes_is new_is =
+    let rs : outcome.reads ≡ reads st (replay held.history) = reads_is ∙ ap (λ h. reads st (replay h)) h_is in
+    let ws : outcome.writes ≡ (meaning_in held st t).writes =
+    writes_is ∙ ap (λ h. (meaning st (after_writes (replay h) own) (places own)).writes) h_is ∙ ap (λ own. (meaning st (after_writes (replay held.history) own) (places own)).writes) own_is in
+    new_is ∙ λ i. record { reads = t.reads ++ at_number (number_is i) (rs i); own = t.own ++ ws i }
+
+pub reply_is : (held : Held) (st : Statement) (t : Open) (h : List Entry) (own : List Write) (reply : Reply) → h ≡ held.history → own ≡ t.own
+    → reply ≡ (meaning st (after_writes (replay h) own) (places own)).reply → reply ≡ (meaning_in held st t).reply
+reply_is held st t h own reply h_is own_is is =
+    is ∙ ap (λ h. (meaning st (after_writes (replay h) own) (places own)).reply) h_is ∙ ap (λ own. (meaning st (after_writes (replay held.history) own) (places own)).reply) own_is
+
+commits_by : (d : Option Entry) (held : Held) (at : ℕ) (t : Open) (reply : Reply) (after : Held) → d ≡ None → first_conflict t.reads held.history ≡ None
+    → net (replay held.history) t.own ≢ [] → HeldSeals held at (net (replay held.history) t.own) reply after → HeldDecidesBy d held at t reply after
+commits_by (Some e) held at t reply after settled none some seals = cc
+commits_by None held at t (Conflict j) after settled none some seals = absurd seals
+commits_by None held at t (Ended p) after settled none some seals = absurd seals
+commits_by None held at t reply after settled none some seals = (none, some, seals)
+
+-- COMMIT of a transaction against which nothing stands
+pub commits : (held : Held) (at : ℕ) (t : Open) (reply : Reply) (after : Held) → held.in_doubt ≡ None → first_conflict t.reads held.history ≡ None
+    → net (replay held.history) t.own ≢ [] → HeldSeals held at (net (replay held.history) t.own) reply after → HeldCommits held at (Some t) reply after
+commits held at t Memory after settled none some seals = seals
+commits held at t reply after settled none some seals = commits_by held.in_doubt held at t reply after settled none some seals

@@ -1,0 +1,177 @@
+-- What is left of each answer of `force`.
+use Rattle.std.proofs.Common.{◌≡◌, ℕ, ◌+◌, ◌≤◌, ◌<◌, List, [], ◌∷◌, ◌++◌, length, Some, None, Ok, Err, refl, sym, ap, subst, ◌∙◌, arith}
+use Rattle.std.specs.Prelude.{slice_set}
+use Rattle.odb_values.specs.Listed.{Listed}
+use Rattle.odb_device.specs.World.{World, file_of}
+use Rattle.odb_device.specs.Moments.{Runs}
+use Rattle.odb_model.specs.declared.entry.Entry.{Entry}
+use Rattle.odb_model.specs.Width.{entry_width}
+use Rattle.odb_model.specs.Machine.{with_doubt}
+use Rattle.odb_codec.specs.Image.{entry_image}
+use Rattle.odb_codec.specs.Reading.{read_entry}
+use Rattle.odb_transdb.specs.declared.error.TransdbError.{TransdbError}
+use Rattle.odb_transdb.specs.declared.error.TransdbError.TheVariants.{Full, FaultBefore, InDoubt}
+use Rattle.odb_transdb.specs.Opened.{entries_in}
+use Rattle.odb_transdb.specs.Standing.{room_of}
+use Rattle.odb_transdb.specs.Answers.{IsForceAnswer, HoldsAll, HoldsAllOrMore}
+use Rattle.odb_system.specs.Held.{Held, IsHeld, Begins, IsSealed, IsDoubted, IsAsBefore, need_of, next_of}
+use Rattle.odb_system.specs.Durable.{perhaps_of, IsDurable, HoldsThroughout}
+use Rattle.odb_system.specs.Room.{room_left}
+use Rattle.odb_codec.proofs.Lengths.{length-entry_image}
+use Rattle.odb_system.proofs.Sealing.{begins_of, room_agrees, image_reads, fault_before, holds_more, holds_same, durable_next, durable_again, durable_either, held_next, held_doubted}
+use Rattle.odb_system.proofs.system.System.seal.Goals as goal
+use Rattle.odb_system.proofs.system.System.seal.Goals.{After-as_slice-2}
+use Rattle.odb_system.proofs.system.System.seal.Given as given
+
+-- before the record is forced
+module _ (g : given.Over) (c : After-as_slice-2 g) where
+  abbrev held : Held
+  held = record { history = c.self.inside.history.items; sessions = c.self.inside.sessions.items; transdb = c.self.inside.transdb; in_doubt = c.self.inside.in_doubt }
+
+  abbrev entry : Entry
+  entry = record { number = length c.as_slice.result.now + 1; by = c.args.at + 1; writes = c.args.writes }
+
+  history_is : c.reserve_place.new.history.items ≡ held.history
+  history_is = c.reserve_place.ensures.items
+
+  number : entry.number ≡ length held.history + 1
+  number = ap (λ (h : List Entry). length h + 1) (c.as_slice.ensures ∙ history_is)
+
+  entry_is : entry ≡ next_of held c.args.at c.args.writes
+  entry_is = λ i. record { number = number i; by = c.args.at + 1; writes = c.args.writes }
+
+  settled : held.in_doubt ≡ None
+  settled = ap (λ (h : Held). h.in_doubt) c.self.view_is ∙ c.requires.settled
+
+  durable : IsDurable held (file_of 0 (g.H.Outside.world c.args.host.now))
+  durable = subst (λ (h : Held). IsDurable h (file_of 0 (g.H.Outside.world c.args.host.now))) (sym c.self.view_is) c.requires.durable
+
+  payload_is : c.as_slice-2.result.now ≡ entry_image entry
+  payload_is = c.as_slice-2.ensures ∙ c.in-Ok.ensures.image
+
+  width : length c.as_slice-2.result.now ≡ entry_width entry
+  width = ap length payload_is ∙ length-entry_image entry
+
+  begins : Begins held.transdb held.history
+  begins = begins_of held settled c.self.invariant
+
+  reads : read_entry held.transdb.active.next c.as_slice-2.result.now ≡ Ok entry
+  reads = image_reads held.transdb.active.next entry c.as_slice-2.result.now (number ∙ begins.next) c.in-Ok.ensures.lawful payload_is
+
+  -- the history with the entry, as the list has it after the push
+  grown : (pushed : List Entry) → pushed ≡ c.reserve_place.new.history.items ++ entry ∷ [] → pushed ≡ held.history ++ entry ∷ []
+  grown pushed is = is ∙ ap (λ (h : List Entry). h ++ entry ∷ []) history_is
+
+pub invariant_of-self-in-Ok-force : goal.invariant_of-self-in-Ok-force
+invariant_of-self-in-Ok-force g c =
+    let b = (goal.at.invariant_of-self-in-Ok-force g c).After-as_slice-2 in
+    let pushed : c.push.new.self.items ≡ (held g b).history ++ entry g b ∷ [] = grown g b c.push.new.self.items (ap (λ (l : Listed Entry). l.items) c.push.ensures) in
+    subst (λ (h : List Entry). IsHeld (record { history = h; sessions = slice_set c.self.inside.sessions.items c.args.at None; transdb = c.force.new.self; in_doubt = c.self.inside.in_doubt })) (sym pushed)
+    (held_next (held g b) c.force.new.self (entry g b) c.args.at (length c.as_slice-2.result.now) c.self.inside.in_doubt c.self.invariant (settled g b) (settled g b)
+    c.in-Ok-force.ensures.placed.1 (number g b) (width g b) c.in-Ok-force.ensures.ok)
+
+pub returns-in-Ok-force-clause-step : goal.returns-in-Ok-force-clause-step
+returns-in-Ok-force-clause-step g c =
+    let b = (goal.at.returns-in-Ok-force-clause-step g c).After-as_slice-2 in
+    let pushed : c.push.new.self.items ≡ (held g b).history ++ entry g b ∷ [] = grown g b c.push.new.self.items (ap (λ (l : Listed Entry). l.items) c.push.ensures) in
+    let after : Held = record { history = c.push.new.self.items; sessions = slice_set c.self.inside.sessions.items c.args.at None; transdb = c.force.new.self; in_doubt = c.self.inside.in_doubt } in
+    let sealed : IsSealed (held g b) c.args.at c.args.writes after = record {
+      history = pushed ∙ ap (λ (e : Entry). (held g b).history ++ e ∷ []) (entry_is g b);
+      sessions = refl;
+      header = c.in-Ok-force.ensures.same;
+      in_doubt = settled g b;
+    } in
+    subst (λ (h : Held). (need_of h c.args.at c.args.writes ≤ room_of h.transdb) × (c.in-Ok-force.number ≡ length h.history + 1) × IsSealed h c.args.at c.args.writes after) c.self.view_is
+    (omega (arith, c.in-Ok-force.ensures.answer.0, width g b), c.in-Ok-force.ensures.answer.1 ∙ sym (begins g b).next, sealed)
+
+pub returns-in-Ok-force-clause-run : goal.returns-in-Ok-force-clause-run
+returns-in-Ok-force-clause-run g c =
+    let b = (goal.at.returns-in-Ok-force-clause-run g c).After-as_slice-2 in
+    let w : World = g.H.Outside.world c.args.host.now in
+    let now : World = g.H.Outside.world c.force.new.store in
+    let pushed : c.push.new.self.items ≡ (held g b).history ++ entry g b ∷ [] = grown g b c.push.new.self.items (ap (λ (l : Listed Entry). l.items) c.push.ensures) in
+    let after : Held = record { history = c.push.new.self.items; sessions = slice_set c.self.inside.sessions.items c.args.at None; transdb = c.force.new.self; in_doubt = c.self.inside.in_doubt } in
+    let more : perhaps_of after ≡ (held g b).history ++ entry g b ∷ [] = ap (with_doubt c.push.new.self.items) (settled g b) ∙ pushed in
+    subst (λ (h : Held). Runs 0 (HoldsThroughout h after) w now) c.self.view_is
+    (holds_more (held g b) after (entry g b) w now (settled g b) (durable g b) more (c.in-Ok-force.ensures.run (entry g b) (reads g b)))
+
+pub returns-in-Ok-force-clause-durable : goal.returns-in-Ok-force-clause-durable
+returns-in-Ok-force-clause-durable g c =
+    let b = (goal.at.returns-in-Ok-force-clause-durable g c).After-as_slice-2 in
+    let w : World = g.H.Outside.world c.args.host.now in
+    let now : World = g.H.Outside.world c.force.new.store in
+    let pushed : c.push.new.self.items ≡ (held g b).history ++ entry g b ∷ [] = grown g b c.push.new.self.items (ap (λ (l : Listed Entry). l.items) c.push.ensures) in
+    let after : Held = record { history = c.push.new.self.items; sessions = slice_set c.self.inside.sessions.items c.args.at None; transdb = c.force.new.self; in_doubt = c.self.inside.in_doubt } in
+    durable_next (held g b) after (entry g b) w now (HoldsAllOrMore (held g b).transdb (entries_in (file_of 0 w)) (entry g b)) (settled g b) (durable g b) (settled g b) pushed
+    (c.in-Ok-force.ensures.run (entry g b) (reads g b)) (c.in-Ok-force.ensures.entries (entry g b) (reads g b)) c.in-Ok-force.ensures.stands
+
+pub returns-in-Full-clause-step : goal.returns-in-Full-clause-step
+returns-in-Full-clause-step g c =
+    let b = (goal.at.returns-in-Full-clause-step g c).After-as_slice-2 in
+    let full : IsForceAnswer (length c.as_slice-2.result.now) (held g b).transdb (Err (Full c.in-Full.need c.in-Full.room)) =
+    subst (λ (e : TransdbError). IsForceAnswer (length c.as_slice-2.result.now) (held g b).transdb (Err e)) c.in-Full.is c.in-Err.ensures.answer in
+    let unmoved : c.force.new.self ≡ (held g b).transdb = (c.force.ensures.full c.in-Full.need c.in-Full.room (c.in-Err.is ∙ ap Err c.in-Full.is)).0 in
+    let after : Held = record { history = c.reserve_place.new.history.items; sessions = c.self.inside.sessions.items; transdb = c.force.new.self; in_doubt = c.self.inside.in_doubt } in
+    let same : after ≡ c.args.self.now =
+    (λ i. record { history = history_is g b i; sessions = c.self.inside.sessions.items; transdb = unmoved i; in_doubt = c.self.inside.in_doubt }) ∙ c.self.view_is in
+    subst (λ (h : Held). (c.in-Full.need ≡ need_of h c.args.at c.args.writes) × (c.in-Full.room ≡ room_of h.transdb) × (c.in-Full.room < c.in-Full.need) × (after ≡ c.args.self.now)) c.self.view_is
+    (omega (arith, full.0, width g b), full.1, full.2, same)
+
+pub invariant_of-self-in-Err-2 : goal.invariant_of-self-in-Err-2
+invariant_of-self-in-Err-2 g c =
+    let b = (goal.at.invariant_of-self-in-Err-2 g c).After-as_slice-2 in
+    subst (λ (h : List Entry). IsHeld (record { history = h; sessions = slice_set c.self.inside.sessions.items c.args.at None; transdb = c.force.new.self; in_doubt = Some (entry g b) })) (sym (history_is g b))
+    (held_doubted (held g b) c.force.new.self (entry g b) c.args.at c.self.invariant (settled g b) c.force.ensures.same (number g b))
+
+pub returns-in-InDoubt-clause-step : goal.returns-in-InDoubt-clause-step
+returns-in-InDoubt-clause-step g c =
+    let b = (goal.at.returns-in-InDoubt-clause-step g c).After-as_slice-2 in
+    let told : IsForceAnswer (length c.as_slice-2.result.now) (held g b).transdb (Err (InDoubt c.in-InDoubt.number)) =
+    subst (λ (e : TransdbError). IsForceAnswer (length c.as_slice-2.result.now) (held g b).transdb (Err e)) c.in-InDoubt.is c.in-Err.ensures.answer in
+    let after : Held = record { history = c.reserve_place.new.history.items; sessions = slice_set c.self.inside.sessions.items c.args.at None; transdb = c.force.new.self; in_doubt = Some (entry g b) } in
+    let doubted : IsDoubted (held g b) c.args.at c.args.writes after = record {
+      history = history_is g b;
+      sessions = refl;
+      header = c.force.ensures.same;
+      in_doubt = ap Some (entry_is g b);
+    } in
+    subst (λ (h : Held). (need_of h c.args.at c.args.writes ≤ room_of h.transdb) × (c.in-InDoubt.number ≡ length h.history + 1) × IsDoubted h c.args.at c.args.writes after) c.self.view_is
+    (omega (arith, told.0, width g b), told.1 ∙ sym (begins g b).next, doubted)
+
+pub returns-in-InDoubt-clause-run : goal.returns-in-InDoubt-clause-run
+returns-in-InDoubt-clause-run g c =
+    let b = (goal.at.returns-in-InDoubt-clause-run g c).After-as_slice-2 in
+    let w : World = g.H.Outside.world c.args.host.now in
+    let now : World = g.H.Outside.world c.force.new.store in
+    let after : Held = record { history = c.reserve_place.new.history.items; sessions = slice_set c.self.inside.sessions.items c.args.at None; transdb = c.force.new.self; in_doubt = Some (entry g b) } in
+    subst (λ (h : Held). Runs 0 (HoldsThroughout h after) w now) c.self.view_is
+    (holds_more (held g b) after (entry g b) w now (settled g b) (durable g b) (ap (λ (h : List Entry). h ++ entry g b ∷ []) (history_is g b)) (c.force.ensures.run (entry g b) (reads g b)))
+
+pub returns-in-InDoubt-clause-durable : goal.returns-in-InDoubt-clause-durable
+returns-in-InDoubt-clause-durable g c =
+    let b = (goal.at.returns-in-InDoubt-clause-durable g c).After-as_slice-2 in
+    let w : World = g.H.Outside.world c.args.host.now in
+    let now : World = g.H.Outside.world c.force.new.store in
+    let after : Held = record { history = c.reserve_place.new.history.items; sessions = slice_set c.self.inside.sessions.items c.args.at None; transdb = c.force.new.self; in_doubt = Some (entry g b) } in
+    durable_either (held g b) after (entry g b) w now refl (history_is g b) c.force.ensures.same
+    (holds_more (held g b) after (entry g b) w now (settled g b) (durable g b) (ap (λ (h : List Entry). h ++ entry g b ∷ []) (history_is g b)) (c.force.ensures.run (entry g b) (reads g b)))
+
+pub returns-in_default-error : goal.returns-in_default-error
+returns-in_default-error g c =
+    let b = (goal.at.returns-in_default-error g c).After-as_slice-2 in
+    let w : World = g.H.Outside.world c.args.host.now in
+    let now : World = g.H.Outside.world c.force.new.store in
+    let only = fault_before (length c.as_slice-2.result.now) (held g b).transdb c.in-Err.error c.in-Err.ensures.answer c.in_default-error.not-Full c.in_default-error.not-InDoubt in
+    let is : c.force.result ≡ Err FaultBefore = c.in-Err.is ∙ ap Err only.0 in
+    let after : Held = record { history = c.reserve_place.new.history.items; sessions = c.self.inside.sessions.items; transdb = c.force.new.self; in_doubt = c.self.inside.in_doubt } in
+    let as_before : IsAsBefore (held g b) after = record { history = history_is g b; sessions = refl; header = c.force.ensures.same; in_doubt = refl } in
+    record {
+      step = subst (λ (h : Held). (need_of h c.args.at c.args.writes ≤ room_of h.transdb) × ◌≡◌ {A = ℕ} 0 0 × IsAsBefore h after) c.self.view_is
+          (omega (arith, only.1, width g b), refl, as_before);
+      room = subst (λ (h : Held). room_of h.transdb ≡ room_left h) c.self.view_is (room_agrees (held g b) (begins g b));
+      fault = c.force.ensures.fault is;
+      run = subst (λ (h : Held). Runs 0 (HoldsThroughout h after) w now) c.self.view_is (holds_same (held g b) after w now (settled g b) (durable g b) (c.force.ensures.before is));
+      durable = durable_again (held g b) after w now (HoldsAll (held g b).transdb (entries_in (file_of 0 w))) (held g b).transdb (settled g b) (durable g b) (settled g b) (history_is g b)
+          (c.force.ensures.before is) (c.force.ensures.kept is);
+      same = c.force.ensures.same ∙ ap (λ (h : Held). h.transdb.header) c.self.view_is;
+    }

@@ -1,0 +1,37 @@
+-- What `create` makes of the file that it finds.
+use Rattle.std.specs.Prelude.{◌≡◌, ◌≢◌, []}
+use Rattle.odb_device.specs.World.{World, file_of}
+use Rattle.odb_device.specs.Images.{EachImage}
+use Rattle.odb_device.specs.Calls.{Keeps}
+use Rattle.odb_model.specs.declared.status.Status.{Status}
+use Rattle.odb_model.specs.declared.status.Status.TheVariants.{Done, Usage, ReadFault, WriteFault, FileFault, NoDatabase, Exists, Damaged, NotHeld, InputTooLong, NoMemory}
+use Rattle.odb_pair.specs.Places.{Opened, no_open_place}
+use Rattle.odb_transdb.specs.Header.{new_header}
+use Rattle.odb_transdb.specs.Opened.{Holds}
+
+-- Which status may come, by the pair at the front of file 0: Exists exactly where it has an open place; a fault of any
+abbrev pub IsCreationOf : Status → Opened → Type 0
+IsCreationOf Done pair = pair ≡ no_open_place
+IsCreationOf Exists pair = pair ≢ no_open_place
+IsCreationOf (FileFault file) pair = Unit {0}
+IsCreationOf Usage pair = ⊥
+IsCreationOf ReadFault pair = ⊥
+IsCreationOf WriteFault pair = ⊥
+IsCreationOf NoDatabase pair = ⊥
+IsCreationOf (Damaged file at) pair = ⊥
+IsCreationOf (NotHeld bank mark first) pair = ⊥
+IsCreationOf InputTooLong pair = ⊥
+IsCreationOf NoMemory pair = ⊥
+
+-- Done: every image of file 0 is a TRANSDB without entries, with sides of 16,384 KiB. Exists: the bytes are as before, and on the disk
+abbrev pub CreateOutcome : Status → World → World → Type 0
+CreateOutcome Done old new = EachImage (Holds (new_header 16384) []) (file_of 0 new)
+CreateOutcome Exists old new = Keeps 0 old new
+CreateOutcome status old new = Unit {0}
+
+-- the statuses that it may end with
+abbrev pub IsCreateStatus : Status → Type 0
+IsCreateStatus Done = Unit {0}
+IsCreateStatus Exists = Unit {0}
+IsCreateStatus (FileFault file) = Unit {0}
+IsCreateStatus other = ⊥

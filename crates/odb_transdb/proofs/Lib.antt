@@ -1,0 +1,15 @@
+pub mod Headers
+pub mod Opened
+pub mod Entries
+pub mod Sides
+pub mod Standing
+pub mod Forcing
+pub mod Forced
+pub mod Creating
+pub mod Walking
+pub mod Joining
+pub mod Bare
+pub mod Opens
+pub mod Begun
+pub mod Finds
+pub mod Pairs

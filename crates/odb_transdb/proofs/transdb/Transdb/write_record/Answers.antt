@@ -1,0 +1,91 @@
+use Rattle.std.proofs.Common.{sym, ap, ◌∙◌, subst, arith}
+use Rattle.odb_device.specs.World.{World, file_of}
+use Rattle.odb_device.specs.Images.{ReadsImage}
+use Rattle.odb_device.specs.Moments.{Runs}
+use Rattle.odb_reclog.specs.Standing.{Log}
+use Rattle.odb_transdb.specs.Opened.{entries_in}
+use Rattle.odb_transdb.specs.Standing.{Db, Stands, IsSettledIn}
+use Rattle.odb_transdb.specs.Answers.{HoldsAll}
+use Rattle.odb_transdb.specs.contracts.transdb.Transdb.{the_view}
+use Rattle.odb_transdb.proofs.Standing.{with_active, is_placed}
+use Rattle.odb_transdb.proofs.Forcing.{HasRoom, IsReady, behind_db, LeavesBehind, step_run, step_settled, steps_run, steps_settled}
+use Rattle.odb_transdb.proofs.transdb.Transdb.write_record.Given.{Over}
+use Rattle.odb_transdb.proofs.transdb.Transdb.write_record.Goals as goal
+use Rattle.odb_transdb.proofs.transdb.Transdb.write_record.Goals.{After-clear_tail, After-write_body}
+
+-- of the log as its fields are
+module _ (g : Over) (c : After-clear_tail g) where
+  abbrev db : Db
+  db = the_view c.self.inside
+
+  abbrev w : World
+  w = g.S.Outside.world c.args.store.now
+
+  abbrev mid : World
+  mid = g.S.Outside.world c.clear_tail.new.store
+
+  abbrev cleared : Log
+  cleared = c.clear_tail.new.self
+
+  ready : IsReady db w
+  ready = record {
+    is = c.self.invariant;
+    room = subst HasRoom (sym c.self.view_is) (omega (arith, c.requires.fits));
+    usable = ap (λ (d : Db). d.active.in_doubt) c.self.view_is ∙ c.requires.usable;
+    stands = subst (λ (d : Db). Stands d (file_of 0 w)) (sym c.self.view_is) c.requires.stands;
+    reads = g.met.S.Store.reads_image c.args.store.now 0;
+  }
+
+  left : LeavesBehind db.active cleared w mid
+  left = record { run = c.clear_tail.ensures.run; stands = c.clear_tail.ensures.stands; same = c.clear_tail.ensures.same }
+
+  clear_run : Runs 0 (HoldsAll db (entries_in (file_of 0 w))) w mid
+  clear_run = step_run db cleared w mid ready left
+
+  clear_settled : IsSettledIn (file_of 0 w) (file_of 0 mid) db (with_active db cleared)
+  clear_settled = step_settled db cleared w mid ready left (g.met.S.Store.reads_image c.clear_tail.new.store 0)
+
+  written : (new : Log) (now : World) → LeavesBehind cleared new mid now → Runs 0 (HoldsAll db (entries_in (file_of 0 w))) w now
+  written new now two = steps_run db cleared new w mid now ready left (g.met.S.Store.reads_image c.clear_tail.new.store 0) two
+
+  written_settled : (new : Log) (now : World) → LeavesBehind cleared new mid now → ReadsImage (file_of 0 now) → IsSettledIn (file_of 0 w) (file_of 0 now) db (with_active db new)
+  written_settled new now two after = steps_settled db cleared new w mid now ready left (g.met.S.Store.reads_image c.clear_tail.new.store 0) two after
+
+pub returns-in_err-clear_tail-clause-run : goal.returns-in_err-clear_tail-clause-run
+returns-in_err-clear_tail-clause-run g c =
+    let a = (goal.at.returns-in_err-clear_tail-clause-run g c).After-clear_tail in
+    subst (λ (d : Db). Runs 0 (HoldsAll d (entries_in (file_of 0 (w g a)))) (w g a) (mid g a)) c.self.view_is (clear_run g a)
+
+pub returns-in_err-clear_tail-clause-settled : goal.returns-in_err-clear_tail-clause-settled
+returns-in_err-clear_tail-clause-settled g c =
+    let a = (goal.at.returns-in_err-clear_tail-clause-settled g c).After-clear_tail in
+    subst (λ (d : Db). IsSettledIn (file_of 0 (w g a)) (file_of 0 (mid g a)) d (with_active (db g a) (cleared g a))) c.self.view_is (clear_settled g a)
+
+-- the body is written at the file that the log has, as it was before
+its_file : (g : Over) (c : After-write_body g)
+    → LeavesBehind c.clear_tail.new.self c.write_body.new.self (g.S.Outside.world c.clear_tail.new.store) (g.S.Outside.world c.write_body.new.store)
+its_file g c = record { run = c.write_body.ensures.run; stands = c.write_body.ensures.stands; same = c.write_body.ensures.same }
+
+pub returns-clause-run : goal.returns-clause-run
+returns-clause-run g c =
+    let at = goal.at.returns-clause-run g c in
+    let a = at.After-clear_tail in
+    let now = g.S.Outside.world c.write_body.new.store in
+    subst (λ (d : Db). Runs 0 (HoldsAll d (entries_in (file_of 0 (w g a)))) (w g a) now) c.self.view_is (written g a c.write_body.new.self now (its_file g at.After-write_body))
+
+pub returns-clause-settled : goal.returns-clause-settled
+returns-clause-settled g c =
+    let at = goal.at.returns-clause-settled g c in
+    let a = at.After-clear_tail in
+    let now = g.S.Outside.world c.write_body.new.store in
+    subst (λ (d : Db). IsSettledIn (file_of 0 (w g a)) (file_of 0 now) d (with_active (db g a) c.write_body.new.self)) c.self.view_is
+    (written_settled g a c.write_body.new.self now (its_file g at.After-write_body) (g.met.S.Store.reads_image c.write_body.new.store 0))
+
+pub returns-in_err-clear_tail-clause-placed : goal.returns-in_err-clear_tail-clause-placed
+returns-in_err-clear_tail-clause-placed g c = is_placed (with_active (the_view c.self.inside) c.clear_tail.new.self) (behind_db (the_view c.self.inside) c.clear_tail.new.self c.clear_tail.ensures.same c.self.invariant)
+
+pub returns-clause-placed : goal.returns-clause-placed
+returns-clause-placed g c =
+    let db = the_view c.self.inside in
+    is_placed (with_active db c.write_body.new.self)
+    (behind_db (with_active db c.clear_tail.new.self) c.write_body.new.self c.write_body.ensures.same (behind_db db c.clear_tail.new.self c.clear_tail.ensures.same c.self.invariant))

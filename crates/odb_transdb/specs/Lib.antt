@@ -1,0 +1,7 @@
+pub mod Header
+pub mod Opened
+pub mod Standing
+pub mod Answers
+pub mod Steps
+pub mod Walking
+pub mod Opening

@@ -1,0 +1,88 @@
+-- A TRANSDB in memory and the bytes of its file.
+use Rattle.std.specs.Prelude.{◌≡◌, ℕ, ◌+◌, ◌-◌, ◌≤◌, true, false, List, length, Option, Some, None, IfSome, IsTrue}
+use Rattle.odb_device.specs.World.{File}
+use Rattle.odb_device.specs.Images.{EachImage}
+use Rattle.odb_pair.specs.Standing.{Kept, StandsFor as PairStandsFor}
+use Rattle.odb_reclog.specs.Standing.{Log, Stands as LogStands}
+use Rattle.odb_model.specs.declared.entry.Entry.{Entry}
+use Rattle.odb_model.specs.declared.side.OtherSide.{OtherSide}
+use Rattle.odb_model.specs.declared.side.OtherSide.TheVariants.{Live, Dirty, Clean}
+use Rattle.odb_transdb.specs.declared.header.Header.{Header}
+use Rattle.odb_transdb.specs.Header.{header_image, is_header, side_start, side_end, first_on, first_held, other_of}
+use Rattle.odb_transdb.specs.Opened.{Holds, entries_in}
+
+-- Its header, the pair that keeps it, the log of the active side, and that of the other side where it is Live.
+pub record Db : Type 0 where
+  pub header : Header
+  pub pair : Kept
+  pub active : Log
+  pub live : Option Log
+
+-- the log is that of this side of file 0
+pub record IsOfSide (h : Header) (side : ℕ) (log : Log) : Type 0 where
+  pub file : log.file ≡ 0
+  pub start : log.start ≡ side_start h side
+  pub end : log.end ≡ side_end h side
+  pub first : log.first ≡ first_on h side
+
+-- there is a log of the other side just where it is Live; then it ends right before the active one begins
+abbrev pub IsLiveBy : Header → OtherSide → Option Log → Log → Type 0
+IsLiveBy h Live (Some log) active = IsOfSide h (other_of h) log × (log.next ≡ active.first) × (log.in_doubt ≡ false)
+IsLiveBy h Live None active = ⊥
+IsLiveBy h Dirty (Some log) active = ⊥
+IsLiveBy h Dirty None active = Unit {0}
+IsLiveBy h Clean (Some log) active = ⊥
+IsLiveBy h Clean None active = Unit {0}
+
+-- the pair of file 0 keeps the lawful header, and the logs are those of its sides
+pub record IsDb (db : Db) : Type 0 where
+  pub lawful : IsTrue (is_header db.header)
+  pub file : db.pair.file ≡ 0
+  pub settled : db.pair.settled ≡ true
+  pub value : db.pair.value ≡ header_image db.header
+  pub active : IsOfSide db.header db.header.active db.active
+  pub place : db.active.start ≤ db.active.place
+  pub from : first_on db.header db.header.active ≤ db.active.next
+  pub live : IsLiveBy db.header db.header.other db.live db.active
+
+-- Where the active side lies, of whatever file: its next record stands in it, and its number isn't below
+-- that of the side's first, which is 1 or more
+pub record IsPlaced (db : Db) : Type 0 where
+  pub side : IsOfSide db.header db.header.active db.active
+  pub place : db.active.start ≤ db.active.place
+  pub from : first_on db.header db.header.active ≤ db.active.next
+  pub some : 1 ≤ first_on db.header db.header.active
+
+-- the bytes are those of the pair, and hold these entries
+pub record StandsFor (db : Db) (entries : List Entry) (bytes : List ℕ) : Type 0 where
+  pub pair : PairStandsFor db.pair bytes
+  pub holds : Holds db.header entries bytes
+
+-- Each image holds the entries that a read gives, which end where the next record's number begins, and each log stands for its
+-- side. Of a file that isn't told this says nothing
+abbrev pub Stands : Db → Option File → Type 0
+Stands db None = Unit {0}
+Stands db (Some file) =
+    LogStands db.active (Some file) × IfSome db.live (λ log. LogStands log (Some file))
+    × EachImage (StandsFor db (entries_in (Some file))) (Some file)
+    × (first_held db.header + length (entries_in (Some file)) ≡ db.active.next)
+
+-- the bytes left on the active side
+abbrev pub room_of : Db → ℕ
+room_of db = db.active.end - db.active.place
+
+-- after a record of n bytes was added
+pub record IsAdvanced (n : ℕ) (old new : Db) : Type 0 where
+  pub header : new.header ≡ old.header
+  pub next : new.active.next ≡ old.active.next + 1
+  pub place : new.active.place ≡ old.active.place + n
+  pub usable : new.active.in_doubt ≡ false
+
+-- after a call that failed before the gate: the entries are as before and stand, and the place and the number of the next record too
+pub record IsSettledIn (before after : Option File) (old new : Db) : Type 0 where
+  pub stands : Stands new after
+  pub entries : entries_in after ≡ entries_in before
+  pub header : new.header ≡ old.header
+  pub next : new.active.next ≡ old.active.next
+  pub place : new.active.place ≡ old.active.place
+  pub usable : new.active.in_doubt ≡ false

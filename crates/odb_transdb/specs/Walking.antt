@@ -1,0 +1,67 @@
+-- What the walk over the records of a side finds.
+use Rattle.std.specs.Prelude.{◌≡◌, ◌≢◌, ℕ, ◌+◌, ◌≤◌, max, List, [], ◌++◌, length, Option, Some, Result, Ok, Err}
+use Rattle.odb_reclog.specs.declared.record.LogRecord.{LogRecord}
+use Rattle.odb_codec.specs.Reading.{read_entry}
+use Rattle.odb_model.specs.declared.entry.Entry.{Entry}
+use Rattle.odb_model.specs.declared.side.OtherSide.{OtherSide}
+use Rattle.odb_model.specs.declared.side.OtherSide.TheVariants.{Live, Dirty, Clean}
+use Rattle.odb_model.specs.State.{IsNumberedFrom}
+use Rattle.odb_model.specs.Width.{record_width, records_width}
+use Rattle.odb_transdb.specs.declared.header.Header.{Header}
+use Rattle.odb_transdb.specs.declared.error.TransdbError.{TransdbError}
+use Rattle.odb_transdb.specs.declared.error.TransdbError.TheVariants.{NoDatabase, Damaged, Full, FaultBefore, InDoubt, Fault, NoMemory}
+use Rattle.odb_transdb.specs.Header.{other_of}
+use Rattle.odb_transdb.specs.Opened.{side_entries, joined}
+
+-- the entries of the other side where it is Live
+abbrev pub live_read : Header → OtherSide → List ℕ → Result (List Entry) ℕ
+live_read h Live bytes = side_entries h (other_of h) bytes
+live_read h Dirty bytes = Ok []
+live_read h Clean bytes = Ok []
+
+-- the entries of all sides that hold some
+abbrev pub sides_read : Header → List ℕ → Result (List Entry) ℕ
+sides_read h bytes = joined (live_read h h.other bytes) (side_entries h h.active bytes)
+
+-- P of all the entries that are read, or the place of the first record that is none
+abbrev pub IsReadOf : {T : Type 0} → (List Entry → T → Type 0) → Result (List Entry) ℕ → Result T TransdbError → Type 0
+IsReadOf P read (Ok x) = (all : List Entry) × (read ≡ Ok all) × P all x
+IsReadOf P read (Err (Damaged at)) = read ≡ Err at
+IsReadOf P read (Err Fault) = Unit {0}
+IsReadOf P read (Err NoMemory) = Unit {0}
+IsReadOf P read (Err NoDatabase) = ⊥
+IsReadOf P read (Err (Full need room)) = ⊥
+IsReadOf P read (Err FaultBefore) = ⊥
+IsReadOf P read (Err (InDoubt number)) = ⊥
+
+-- the record of this number that a list has at a place
+abbrev pub IsRecordOf : Option LogRecord → ℕ → ℕ → Result LogRecord TransdbError → Type 0
+IsRecordOf found at number (Ok r) = (found ≡ Some r) × (r.number ≡ number)
+IsRecordOf found at number (Err (Damaged place)) = (place ≡ at) × ((r : LogRecord) → found ≡ Some r → r.number ≢ number)
+IsRecordOf found at number (Err Fault) = Unit {0}
+IsRecordOf found at number (Err NoMemory) = Unit {0}
+IsRecordOf found at number (Err NoDatabase) = ⊥
+IsRecordOf found at number (Err (Full need room)) = ⊥
+IsRecordOf found at number (Err FaultBefore) = ⊥
+IsRecordOf found at number (Err (InDoubt other)) = ⊥
+
+-- the entry that the payload is the image of
+abbrev pub IsEntryOf : ℕ → List ℕ → ℕ → Result Entry TransdbError → Type 0
+IsEntryOf number payload at (Ok e) = (read_entry number payload ≡ Ok e) × (e.number ≡ number) × (record_width e ≡ 13 + length payload)
+IsEntryOf number payload at (Err (Damaged place)) = (place ≡ at) × ((left : ℕ) × (read_entry number payload ≡ Err left))
+IsEntryOf number payload at (Err NoMemory) = Unit {0}
+IsEntryOf number payload at (Err Fault) = ⊥
+IsEntryOf number payload at (Err NoDatabase) = ⊥
+IsEntryOf number payload at (Err (Full need room)) = ⊥
+IsEntryOf number payload at (Err FaultBefore) = ⊥
+IsEntryOf number payload at (Err (InDoubt other)) = ⊥
+
+-- entries of a side that has records from the number `first` to before `next`, of which those from `from` on are taken
+pub record IsPart (from first next bytes : ℕ) (more : List Entry) : Type 0 where
+  pub numbers : IsNumberedFrom (max from first) more
+  pub count : max from first + length more ≡ max from next
+  pub width : from ≤ first → records_width more ≡ bytes
+
+-- such entries come behind those before
+abbrev pub AddsPart : ℕ → ℕ → ℕ → ℕ → List Entry → List Entry → Type 0
+AddsPart from first next bytes old new = (more : List Entry) × (new ≡ old ++ more) × IsPart from first next bytes more

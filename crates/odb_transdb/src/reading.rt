@@ -1,0 +1,214 @@
+// Reading the entries that TRANSDB holds.
+ghost use Rattle.std.specs.Prelude.{◌≡◌, ◌≢◌, ℕ, ◌+◌, ◌-◌, ◌<◌, ◌≤◌, max, true, false, [], ◌∷◌, ◌++◌, drop, length, Err, Some, IsTrue, OnOk, IfOk, IfSome};
+ghost use Rattle.odb_device.specs.World.{file_of};
+ghost use Rattle.odb_device.specs.Calls.{FileCountRose};
+ghost use Rattle.odb_device.specs.Moments.{Runs};
+ghost use Rattle.odb_reclog.specs.Records.{log_of, IsPlaceIn, record_in};
+ghost use Rattle.odb_reclog.specs.Standing.{Stands as LogStands};
+ghost use Rattle.odb_reclog.specs.Windows.{Shows};
+ghost use Rattle.odb_model.specs.State.{IsNumberedFrom};
+ghost use Rattle.odb_model.specs.Width.{records_width};
+ghost use Rattle.odb_transdb.specs.Header.{is_header, first_held, active_first};
+ghost use Rattle.odb_transdb.specs.Standing.{IsOfSide, IsLiveBy};
+ghost use Rattle.odb_transdb.specs.Opened.{entries_from};
+ghost use Rattle.odb_transdb.specs.Answers.{IsReadRefusal};
+ghost use Rattle.odb_transdb.specs.Walking.{live_read, sides_read, IsReadOf, IsRecordOf, IsEntryOf, AddsPart};
+
+use crate::{Header, Transdb, TransdbError};
+use odb_codec::{CodecError, decode_entry};
+use odb_device::Store;
+use odb_model::{Entries, Entry};
+use odb_reclog::{LogRecord, RecError, RecLog, Window};
+use odb_values::{Frozen, List};
+use std::alloc::{AllocError, Global};
+
+impl Transdb {
+    ghost use Rattle.odb_transdb.specs.Opened.{entries_in};
+    ghost use Rattle.odb_transdb.specs.Standing.{Stands, IsPlaced};
+
+    /// The entries from a number on, which is at least `first()`, in order.
+    ///
+    /// It goes once over the sides that hold entries, those before the number too, in pieces of 65,536 bytes, and takes memory for
+    /// one record at a time and for the entries that it gives.
+    ///
+    /// - `Fault`: a read failed. `NoMemory`: there is none for the entries.
+    /// - `Damaged`: a record that was in order at the opening is so no longer, at its place. A file that is told never shows it.
+    pub fn entries<S: Store>(
+        &self,
+        alloc: Global,
+        store: &mut S,
+        from: u64,
+    ) -> Result<Entries, TransdbError>
+        requires usable { self.now.active.in_doubt ≡ false }
+        requires from { first_held self.now.header ≤ from }
+        requires stands { Stands self.now (file_of 0 (S.world store.old)) }
+        ensures run { Runs 0 (λ f. f ≡ file_of 0 (S.world store.old)) (S.world store.old) (S.world store.new) }
+        ensures entries { IfSome (file_of 0 (S.world store.old)) (λ f. IfOk result (λ es. es ≡ drop (from - first_held self.now.header) (entries_in (Some f)))) }
+        ensures numbers { IfOk result (λ es. IsNumberedFrom from es × (from ≤ self.now.active.next → from + length es ≡ self.now.active.next)) }
+        ensures width { IfOk result (λ es. from ≤ active_first self.now.header
+            → records_width (drop (active_first self.now.header - from) es) ≡ self.now.active.place - self.now.active.start) }
+        ensures damaged { IfSome (file_of 0 (S.world store.old)) (λ f. (at : ℕ) → result ≢ Err (TransdbError.Damaged at)) }
+        ensures placed { IsPlaced self.now }
+        ensures refusal { IsReadRefusal result }
+        ensures cause { result ≡ Err TransdbError.Fault → FileCountRose 0 (S.world store.old) (S.world store.new) }
+    {
+        read_sides(alloc, store, &self.header, &self.live, &self.active, from)
+    }
+}
+
+/// The entries from a number on, which is at least that of the first entry held, in order.
+///
+/// Refuses a record whose payload is no entry, at its place.
+pub(crate) fn read_sides<S: Store>(
+    alloc: Global,
+    store: &mut S,
+    header: &Header,
+    live: &Option<RecLog>,
+    active: &RecLog,
+    from: u64,
+) -> Result<Entries, TransdbError>
+    requires lawful { IsTrue (is_header header.now) }
+    requires side { IsOfSide header.now header.now.active active.now }
+    requires other { IsLiveBy header.now header.now.other live.now active.now }
+    requires usable { active.now.in_doubt ≡ false }
+    requires from { first_held header.now ≤ from }
+    requires active { LogStands active.now (file_of 0 (S.world store.old)) }
+    requires live { IfSome live.now (λ log. LogStands log (file_of 0 (S.world store.old))) }
+    ensures run { Runs 0 (λ f. f ≡ file_of 0 (S.world store.old)) (S.world store.old) (S.world store.new) }
+    ensures told { IfSome (file_of 0 (S.world store.old)) (λ f. IsReadOf (λ all es. es ≡ drop (from - first_held header.now) all) (sides_read header.now f.bytes) result) }
+    ensures numbers { IfOk result (λ es. IsNumberedFrom from es × (from + length es ≡ max from active.now.next)) }
+    ensures width { IfOk result (λ es. from ≤ active_first header.now → records_width (drop (active_first header.now - from) es) ≡ active.now.place - active.now.start) }
+    ensures least { OnOk result ((active_first header.now ≤ active.now.next) × (active.now.start ≤ active.now.place)) }
+    ensures refusal { IsReadRefusal result }
+    ensures cause { result ≡ Err TransdbError.Fault → FileCountRose 0 (S.world store.old) (S.world store.new) }
+{
+    let mut entries = read_live(alloc, store, header, live, active, from)?;
+    let start = header.side_start(header.active);
+    let first = header.first_on(header.active);
+    add_entries(alloc, store, active, start, first, from, &mut entries)?;
+    Ok(Frozen::new(entries))
+}
+
+/// Those of them that a Live side holds.
+fn read_live<S: Store>(
+    alloc: Global,
+    store: &mut S,
+    header: &Header,
+    live: &Option<RecLog>,
+    active: &RecLog,
+    from: u64,
+) -> Result<List<Entry>, TransdbError>
+    requires lawful { IsTrue (is_header header.now) }
+    requires side { IsOfSide header.now header.now.active active.now }
+    requires other { IsLiveBy header.now header.now.other live.now active.now }
+    requires from { first_held header.now ≤ from }
+    requires live { IfSome live.now (λ log. LogStands log (file_of 0 (S.world store.old))) }
+    ensures run { Runs 0 (λ f. f ≡ file_of 0 (S.world store.old)) (S.world store.old) (S.world store.new) }
+    ensures told { IfSome (file_of 0 (S.world store.old)) (λ f. IsReadOf (λ all l. (l.items ≡ drop (from - first_held header.now) all) × (first_held header.now + length all ≡ active_first header.now)) (live_read header.now header.now.other f.bytes) result) }
+    ensures numbers { IfOk result (λ l. IsNumberedFrom from l.items × (from + length l.items ≡ max from (active_first header.now))) }
+    ensures refusal { IsReadRefusal result }
+    ensures cause { result ≡ Err TransdbError.Fault → FileCountRose 0 (S.world store.old) (S.world store.new) }
+{
+    let mut entries = List::new(alloc);
+    let Some(log) = live else {
+        return Ok(entries);
+    };
+    let side = header.other_side();
+    let start = header.side_start(side);
+    let first = header.first_on(side);
+    add_entries(alloc, store, log, start, first, from, &mut entries)?;
+    Ok(entries)
+}
+
+/// Goes over the list of a side, and adds those of its entries that have a number from `from` on.
+///
+/// It reads in pieces of 65,536 bytes, by a window on the stack, and takes memory for one record at a time besides the entries.
+fn add_entries<S: Store>(
+    alloc: Global,
+    store: &mut S,
+    log: &RecLog,
+    start: u64,
+    first: u64,
+    from: u64,
+    entries: &mut List<Entry>,
+) -> Result<(), TransdbError>
+    requires usable { log.now.in_doubt ≡ false }
+    requires stands { LogStands log.now (file_of log.now.file (S.world store.old)) }
+    requires begin { (start ≡ log.now.start) × (first ≡ log.now.first) }
+    ensures run { Runs log.now.file (λ f. f ≡ file_of log.now.file (S.world store.old)) (S.world store.old) (S.world store.new) }
+    ensures told { IfSome (file_of log.now.file (S.world store.old)) (λ f. IsReadOf (λ all _. entries.new.items ≡ entries.old.items ++ drop (from - log.now.first) all)
+        (entries_from log.now.first log.now.start (log_of log.now.start log.now.end log.now.first f.bytes)) result) }
+    ensures least { OnOk result ((log.now.first ≤ log.now.next) × (log.now.start ≤ log.now.place)) }
+    ensures part { OnOk result (AddsPart from log.now.first log.now.next (log.now.place - log.now.start) entries.old.items entries.new.items) }
+    ensures refusal { IsReadRefusal result }
+    ensures cause { result ≡ Err TransdbError.Fault → FileCountRose log.now.file (S.world store.old) (S.world store.new) }
+{
+    let end = log.place();
+    let next = log.next_number();
+    let mut window = Window::new();
+    let mut at = start;
+    let mut number = first;
+    while at < end {
+        let record = record_at(alloc, store, log, &mut window, at, number)?;
+        let entry = entry_of(alloc, &record, at)?;
+        add_entry(entries, entry, number >= from)?;
+        at = record.next;
+        number += 1;
+    }
+    if number != next {
+        return Err(TransdbError::Damaged { at });
+    }
+    Ok(())
+}
+
+/// Adds an entry where it is wanted.
+fn add_entry(entries: &mut List<Entry>, entry: Entry, wanted: bool) -> Result<(), AllocError>
+    ensures wanted { OnOk result (wanted ≡ true → entries.new.items ≡ entries.old.items ++ entry ∷ []) }
+    ensures other { OnOk result (wanted ≡ false → entries.new.items ≡ entries.old.items) }
+{
+    if wanted {
+        entries.reserve()?;
+        entries.push(entry);
+    }
+    Ok(())
+}
+
+/// The record of this number at a place.
+fn record_at<S: Store>(
+    alloc: Global,
+    store: &mut S,
+    log: &RecLog,
+    window: &mut Window,
+    at: u64,
+    number: u64,
+) -> Result<LogRecord, TransdbError>
+    requires usable { log.now.in_doubt ≡ false }
+    requires stands { LogStands log.now (file_of log.now.file (S.world store.old)) }
+    requires within { (log.now.start ≤ at) × (at ≤ log.now.place) }
+    requires place { IfSome (file_of log.now.file (S.world store.old)) (λ f. IsPlaceIn log.now.start (log_of log.now.start log.now.end log.now.first f.bytes) at) }
+    requires shows { Shows window.old (file_of log.now.file (S.world store.old)) }
+    ensures run { Runs log.now.file (λ f. f ≡ file_of log.now.file (S.world store.old)) (S.world store.old) (S.world store.new) }
+    ensures told { IfSome (file_of log.now.file (S.world store.old)) (λ f. IsRecordOf (record_in log.now.start log.now.first (log_of log.now.start log.now.end log.now.first f.bytes) at) at number result) }
+    ensures found { IfOk result (λ r. (r.number ≡ number) × (number < log.now.next) × (r.next ≤ log.now.place) × (r.next ≡ at + 13 + length r.payload)) }
+    ensures shows { OnOk result (Shows window.new (file_of log.now.file (S.world store.old))) }
+    ensures refusal { IsReadRefusal result }
+    ensures cause { result ≡ Err TransdbError.Fault → FileCountRose log.now.file (S.world store.old) (S.world store.new) }
+{
+    match log.records_by(alloc, store, window, at) {
+        Ok(Some(record)) if record.number == number => Ok(record),
+        Ok(_) => Err(TransdbError::Damaged { at }),
+        Err(RecError::NoMemory) => Err(TransdbError::NoMemory),
+        Err(_) => Err(TransdbError::Fault),
+    }
+}
+
+/// The entry that the payload of the record at a place is the image of.
+fn entry_of(alloc: Global, found: &LogRecord, at: u64) -> Result<Entry, TransdbError>
+    ensures { IsEntryOf found.now.number found.now.payload at result }
+{
+    match decode_entry(alloc, found.number, found.payload.as_slice()) {
+        Ok(entry) => Ok(entry),
+        Err(CodecError::NoMemory) => Err(TransdbError::NoMemory),
+        Err(CodecError::Malformed { .. }) => Err(TransdbError::Damaged { at }),
+    }
+}
