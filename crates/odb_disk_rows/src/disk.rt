@@ -10,7 +10,7 @@ ghost use Rattle.odb_reclog.specs.Standing.{Stands};
 use odb_memstore::MemStore;
 use odb_pair::{Pair, PairError, value_of};
 use odb_reclog::{RecError, RecLog, log_of};
-use odb_values::Bytes;
+use odb_values::{Bytes, Frozen};
 use std::alloc::Global;
 use std::test::Fail;
 
@@ -306,7 +306,16 @@ fn payloads(alloc: Global, log: &RecLog, store: &mut MemStore) -> Result<Vec<Byt
     Ok(list)
 }
 
-/// Whether the list that a crash behind so many calls leaves has just these payloads: by the definition, and as `open` and `records` read it.
+/// The payloads of the list that a crash behind so many calls leaves, as `open_with_payloads` gives them.
+fn at_once(alloc: Global, store: &MemStore, calls: u32, pick: u64) -> Result<Frozen<Bytes>, Fail> {
+    let mut left = crashed(alloc, store, calls, pick)?;
+    let end = end_of(&left)?;
+    let (_log, payloads) = RecLog::open_with_payloads(alloc, &mut left, 0, START, end, 1)?;
+    Ok(payloads)
+}
+
+/// Whether the list that a crash behind so many calls leaves has just these payloads: by the definition, as `open` and `records` read
+/// it, and as `open_with_payloads` gives it.
 fn has_left(
     alloc: Global,
     store: &MemStore,
@@ -319,7 +328,8 @@ fn has_left(
     let plain = log_of(alloc, left.file(0), START, end, 1)?;
     let log = log_in(&mut left)?;
     let read = payloads(alloc, &log, &mut left)?;
-    Ok(are(plain.as_slice(), wanted) && are(&read, wanted))
+    let whole = at_once(alloc, store, calls, pick)?;
+    Ok(are(plain.as_slice(), wanted) && are(&read, wanted) && are(whole.as_slice(), wanted))
 }
 
 /// Whether a list has just these payloads.

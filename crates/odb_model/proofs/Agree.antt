@@ -1,5 +1,5 @@
 -- States that agree on the ranges that a statement reads give it the same meaning.
-use Rattle.std.proofs.Common.{◌≡◌, ℕ, Bool, true, false, ◌&&◌, ◌||◌, ◌==◌, not, cond, List, [], ◌∷◌, ◌++◌, map, length, codes, is_some, refl, sym, ap, ◌∙◌, eq-eqb, nat_lt, Option, Some, None, slice_get, unwrap_or, if◌then◌else◌}
+use Rattle.std.proofs.Common.{◌≡◌, ℕ, Bool, true, false, ◌&&◌, ◌||◌, ◌==◌, not, cond, List, [], ◌∷◌, ◌++◌, map, length, codes, is_some, refl, sym, ap, subst, ◌∙◌, eq-eqb, nat_lt, Option, Some, None, slice_get, unwrap_or, if◌then◌else◌}
 use Rattle.std.specs.List.{filter}
 use Rattle.odb_model.specs.declared.reply.Reply.TheVariants.{Done, Duplicate, TooManyWrites}
 use Rattle.std.specs.declared.cmp.Ordering.{Ordering}
@@ -18,16 +18,20 @@ use Rattle.odb_values.specs.ValueOrder.{value_cmp_total}
 use Rattle.odb_values.specs.Range.{passes_low}
 use Rattle.odb_model.specs.declared.write.Write.{Write}
 use Rattle.odb_model.specs.declared.statement.What.{What}
-use Rattle.odb_model.specs.declared.statement.Compare.TheVariants.{Gt}
-use Rattle.odb_model.specs.declared.statement.Operand.TheVariants.{Column as ColumnOf, Literal}
-use Rattle.odb_model.specs.declared.statement.Truth.TheVariants.{Unknown}
-use Rattle.odb_model.specs.declared.statement.Predicate.{Predicate}
-use Rattle.odb_model.specs.declared.statement.Predicate.TheVariants.{Test}
+use Rattle.odb_model.specs.declared.predicate.Compare.{Compare}
+use Rattle.odb_model.specs.declared.predicate.Compare.TheVariants.{Eq, Ne, Lt, Le, Gt, Ge}
+use Rattle.odb_model.specs.declared.predicate.Operand.{Operand}
+use Rattle.odb_model.specs.declared.predicate.Operand.TheVariants.{Column as ColumnOf, Literal}
+use Rattle.odb_model.specs.declared.truth.Truth.{Truth}
+use Rattle.odb_model.specs.declared.truth.Truth.TheVariants.{Unknown}
+use Rattle.odb_model.specs.declared.predicate.Predicate.{Predicate, Not', And', Or', fold-Predicate, fold-roll-Predicate}
+use Rattle.odb_model.specs.declared.predicate.Predicate.TheOpen.{Predicate-F}
+use Rattle.odb_model.specs.declared.predicate.Predicate.TheVariants.{Test, Null as IsNull, rolls-Test}
 use Rattle.odb_model.specs.declared.statement.Statement.{Statement}
-use Rattle.odb_model.specs.declared.statement.Statement.TheVariants.{Start, Commit, Select, Insert}
+use Rattle.odb_model.specs.declared.statement.Statement.TheVariants.{Start, Commit, Select, Insert, Rollback, Update, Delete, CreateDatabank, CreateTable, DropTable, CreateShadow, ShadowOnline, ShadowOffline, ShadowMaster, DropShadow, CreateBackup, BackupReady, DropBackup, Restore}
 use Rattle.odb_model.specs.State.{Place, State, place_cmp, place_of, changed, after_writes, is_in, is_in_any, AgreeOn, part_in, rows_of}
-use Rattle.odb_model.specs.Table.{Table, kv, table_of, is_named, in_columns, key_of}
-use Rattle.odb_model.specs.Truth.{truth_if, holds, compared, is_true, keeps}
+use Rattle.odb_model.specs.Table.{Column, Table, kv, table_of, is_named, in_columns, key_of}
+use Rattle.odb_model.specs.Truth.{truth_if, holds, compared, operand_value, truth_step, truth_of, is_true, keeps}
 use Rattle.odb_model.specs.Meaning.{meaning, refused, selected, inserted, put_of, kept_rows, has_duplicate, different, most_writes, told}
 use Rattle.odb_model.specs.Reads.{reads, whole, range_of, point_of, points_of, where_range, dictionary_row}
 use Rattle.odb_model.proofs.Replay.{get-changed_at, part_in-same}
@@ -44,6 +48,12 @@ or_left false b e = cc
 or_right : (a b : Bool) → b ≡ true → (a || b) ≡ true
 or_right true b e = refl
 or_right false b e = e
+
+-- a comparison holds by its sides
+pub truth_of-test : (columns : List Column) (values : List Value) (op : Compare) (left right : Operand)
+    → truth_of columns values (Test op left right) ≡ compared op (operand_value columns values left) (operand_value columns values right)
+truth_of-test columns values op left right =
+    ap (fold-Predicate Truth (truth_step columns values)) (sym (rolls-Test op left right)) ∙ fold-roll-Predicate Truth (truth_step columns values) (Predicate-F.Test op left right)
 
 -- the values of a row, in column order
 abbrev laid : Place × List Value → List Value
@@ -97,9 +107,21 @@ module _ (place : Place) (row : List Value) where
 
   covers : (f : Option Predicate) → ((5 == place.0) && keeps kv.columns f (in_columns kv.columns place.1 row)) ≡ true → is_in (range_of kv f) place ≡ true
   covers None e = whole_covers true e
-  covers (Some (Test Gt (ColumnOf name) (Literal v))) e = column_covers v (is_named name (codes "K")) (is_named name (codes "V")) (is_null v) e
+  covers (Some (Test Gt (ColumnOf name) (Literal v))) e =
+      let values = in_columns kv.columns place.1 row in
+      column_covers v (is_named name (codes "K")) (is_named name (codes "V")) (is_null v)
+      (subst (λ (t : Truth). ((5 == place.0) && is_true t) ≡ true) (truth_of-test kv.columns values Gt (ColumnOf name) (Literal v)) e)
   covers (Some (Test Gt (ColumnOf name) (ColumnOf other))) e = whole_covers _ e
   covers (Some (Test Gt (Literal u) right)) e = whole_covers _ e
+  covers (Some (Test Eq left right)) e = whole_covers _ e
+  covers (Some (Test Ne left right)) e = whole_covers _ e
+  covers (Some (Test Lt left right)) e = whole_covers _ e
+  covers (Some (Test Le left right)) e = whole_covers _ e
+  covers (Some (Test Ge left right)) e = whole_covers _ e
+  covers (Some (IsNull name negated)) e = whole_covers _ e
+  covers (Some (Not' p a)) e = whole_covers _ e
+  covers (Some (And' p a q b)) e = whole_covers _ e
+  covers (Some (Or' p a q b)) e = whole_covers _ e
 
 -- the rows that a WHERE keeps are among those of its range
 pub kept_rows-part : (f : Option Predicate) (s : State) → kept_rows kv f s
@@ -173,6 +195,21 @@ reads-same Start s t = refl
 reads-same Commit s t = refl
 reads-same (Select what table f) s t = refl
 reads-same (Insert table tuples) s t = refl
+reads-same Rollback s t = refl
+reads-same (Update table sets f) s t = refl
+reads-same (Delete table f) s t = refl
+reads-same (CreateDatabank name) s t = refl
+reads-same (CreateTable name columns key bank) s t = refl
+reads-same (DropTable name) s t = refl
+reads-same (CreateShadow name bank) s t = refl
+reads-same (ShadowOnline name) s t = refl
+reads-same (ShadowOffline name) s t = refl
+reads-same (ShadowMaster name) s t = refl
+reads-same (DropShadow name) s t = refl
+reads-same (CreateBackup name bank) s t = refl
+reads-same (BackupReady name) s t = refl
+reads-same (DropBackup name) s t = refl
+reads-same (Restore bank name) s t = refl
 
 pub meaning-same : (st : Statement) (s t : State) (written : List Place) → AgreeOn (reads st s) s t → meaning st s written ≡ meaning st t written
 meaning-same Start s t written same = refl
@@ -181,6 +218,21 @@ meaning-same (Select what table f) s t written same =
     selected-same (is_named table (codes "KV")) what f s t (AgreeOn-tail (dictionary_row table) (where_range (table_of s table) f) s t same)
 meaning-same (Insert table tuples) s t written same =
     inserted-same (is_named table (codes "KV")) tuples s t written (AgreeOn-tail (dictionary_row table) (points_of (table_of s table) tuples) s t same)
+meaning-same Rollback s t written same = refl
+meaning-same (Update table sets f) s t written same = refl
+meaning-same (Delete table f) s t written same = refl
+meaning-same (CreateDatabank name) s t written same = refl
+meaning-same (CreateTable name columns key bank) s t written same = refl
+meaning-same (DropTable name) s t written same = refl
+meaning-same (CreateShadow name bank) s t written same = refl
+meaning-same (ShadowOnline name) s t written same = refl
+meaning-same (ShadowOffline name) s t written same = refl
+meaning-same (ShadowMaster name) s t written same = refl
+meaning-same (DropShadow name) s t written same = refl
+meaning-same (CreateBackup name bank) s t written same = refl
+meaning-same (BackupReady name) s t written same = refl
+meaning-same (DropBackup name) s t written same = refl
+meaning-same (Restore bank name) s t written same = refl
 
 -- the same writes keep states alike
 pub get-after_writes-same : (s t : State) (ws : List Write) (q : Place) → get s q ≡ get t q → get (after_writes s ws) q ≡ get (after_writes t ws) q

@@ -9,3 +9,4 @@ pub mod Keys
 pub mod Stored
 pub mod Decimal
 pub mod Told
+pub mod Finds

@@ -5,23 +5,24 @@ use Rattle.std.proofs.lemmas.List.{take-append-le}
 use Rattle.std.proofs.Math.Seq.{take-append_seam, take-length}
 use Rattle.odb_model.specs.declared.write.Write.{Write}
 use Rattle.odb_model.specs.declared.entry.Entry.{Entry}
-use Rattle.odb_model.specs.declared.event.Event.TheVariants.{Session as OfSession}
+use Rattle.odb_model.specs.declared.event.Event.{Event}
+use Rattle.odb_model.specs.declared.event.Event.TheVariants.{Session as OfSession, Control as Upkeep}
 use Rattle.odb_model.specs.declared.reply.Head.{Head}
 use Rattle.odb_model.specs.declared.reply.Head.TheVariants.{Session}
 use Rattle.odb_model.specs.declared.reply.Reply.{Reply}
 use Rattle.odb_model.specs.declared.reply.Reply.TheVariants.{Okay, Rows, Done, Committed, Ended, InDoubt, NotYet, NoTransaction, InTransaction, Duplicate, TooManyWrites, Halted, Conflict, Full, Fault, Memory}
 use Rattle.odb_values.specs.declared.value.Value.{Value}
 use Rattle.odb_model.specs.declared.statement.What.{What}
-use Rattle.odb_model.specs.declared.statement.What.TheVariants.{Columns}
+use Rattle.odb_model.specs.declared.statement.What.TheVariants.{All, Columns, Count, Sum}
 use Rattle.odb_model.specs.declared.statement.Statement.{Statement}
-use Rattle.odb_model.specs.declared.statement.Statement.TheVariants.{Start, Commit, Select, Insert}
+use Rattle.odb_model.specs.declared.statement.Statement.TheVariants.{Start, Commit, Select, Insert, Rollback, Update, Delete, CreateDatabank, CreateTable, DropTable, CreateShadow, ShadowOnline, ShadowOffline, ShadowMaster, DropShadow, CreateBackup, BackupReady, DropBackup, Restore}
 use Rattle.odb_model.specs.State.{Place, State, place_of, after_writes, replay, IsNumberedFrom, IsHistory}
 use Rattle.odb_model.specs.Table.{Column, is_named, kv}
 use Rattle.odb_model.specs.Meaning.{Meaning, meaning, told, kept_rows, selected, inserted, put_of, has_duplicate, different, most_writes, refused, is_built}
 use Rattle.odb_model.specs.Transaction.{Exchange, statements_of, places, open_meaning, open_reply, own_from, own_writes, net, alone, reads_of, conflict}
-use Rattle.odb_model.specs.Machine.{Side, Machine, first_machine, with_session, with_entry, in_doubt_of, exchange_now, net_of, Starts, Executes, Decides, DecidesBy, Commits, Refuses, Runs, Step}
+use Rattle.odb_model.specs.Machine.{Side, Machine, first_machine, with_session, with_entry, in_doubt_of, exchange_now, net_of, Starts, Executes, Decides, DecidesBy, Commits, Refuses, Keeps, Runs, Step}
 use Rattle.odb_model.specs.Serial.{IsSerial, HasOpenReplies, SessionIsFaithful, IsFaithful}
-use Rattle.odb_model.specs.Script.{IsRefused}
+use Rattle.odb_model.specs.Script.{IsRefused, head_of}
 use Rattle.odb_model.specs.Play.{Answer, IsAnswer, IsRun, CommitsSerially, AllSerial}
 use Rattle.odb_model.proofs.Own.{no_conflict, DoesAlone, does_alone}
 
@@ -44,6 +45,9 @@ put_is_meant ws false false = refl
 told_is_meant : (columns : List Column) (what : What) (rows : List (List Value)) → is_meant (told columns what rows) ≡ true
 unfolding is_meant
 told_is_meant columns (Columns names) rows = refl
+told_is_meant columns All rows = refl
+told_is_meant columns Count rows = refl
+told_is_meant columns (Sum name) rows = refl
 
 are_meant : (st : Statement) (s : State) (written : List Place) → is_meant (meaning st s written).reply ≡ true
 unfolding is_meant
@@ -54,6 +58,21 @@ are_meant (Insert table tuples) s written = elim (is_named table (codes "KV")) a
   | true ↦ put_is_meant (map (put_of kv) tuples) (has_duplicate s (map (put_of kv) tuples)) (nat_lt most_writes (different (written ++ map place_of (map (put_of kv) tuples))))
   | false ↦ refl
 ]
+are_meant Rollback s written = refl
+are_meant (Update table sets w) s written = refl
+are_meant (Delete table w) s written = refl
+are_meant (CreateDatabank name) s written = refl
+are_meant (CreateTable name columns key bank) s written = refl
+are_meant (DropTable name) s written = refl
+are_meant (CreateShadow name bank) s written = refl
+are_meant (ShadowOnline name) s written = refl
+are_meant (ShadowOffline name) s written = refl
+are_meant (ShadowMaster name) s written = refl
+are_meant (DropShadow name) s written = refl
+are_meant (CreateBackup name bank) s written = refl
+are_meant (BackupReady name) s written = refl
+are_meant (DropBackup name) s written = refl
+are_meant (Restore bank name) s written = refl
 
 pub not_meant : (r : Reply) (st : Statement) (s : State) (written : List Place) → is_meant r ≡ false → r ≡ (meaning st s written).reply → ⊥
 not_meant r st s written other same = let meant = are_meant st s written in cc
@@ -173,6 +192,21 @@ faithful_runs m s risen Start reply after f step = faithful_starts m s (m.sessio
 faithful_runs m s risen Commit reply after f step = faithful_commits m s risen (m.sessions s) reply after f step
 faithful_runs m s risen (Select what table w) reply after f step = faithful_executes m s (Select what table w) (m.sessions s) reply after refl f step
 faithful_runs m s risen (Insert table tuples) reply after f step = faithful_executes m s (Insert table tuples) (m.sessions s) reply after refl f step
+faithful_runs m s risen Rollback reply after f step = faithful_refuses m reply after f step
+faithful_runs m s risen (Update table sets w) reply after f step = faithful_refuses m reply after f step
+faithful_runs m s risen (Delete table w) reply after f step = faithful_refuses m reply after f step
+faithful_runs m s risen (CreateDatabank name) reply after f step = faithful_refuses m reply after f step
+faithful_runs m s risen (CreateTable name columns key bank) reply after f step = faithful_refuses m reply after f step
+faithful_runs m s risen (DropTable name) reply after f step = faithful_refuses m reply after f step
+faithful_runs m s risen (CreateShadow name bank) reply after f step = faithful_refuses m reply after f step
+faithful_runs m s risen (ShadowOnline name) reply after f step = faithful_refuses m reply after f step
+faithful_runs m s risen (ShadowOffline name) reply after f step = faithful_refuses m reply after f step
+faithful_runs m s risen (ShadowMaster name) reply after f step = faithful_refuses m reply after f step
+faithful_runs m s risen (DropShadow name) reply after f step = faithful_refuses m reply after f step
+faithful_runs m s risen (CreateBackup name bank) reply after f step = faithful_refuses m reply after f step
+faithful_runs m s risen (BackupReady name) reply after f step = faithful_refuses m reply after f step
+faithful_runs m s risen (DropBackup name) reply after f step = faithful_refuses m reply after f step
+faithful_runs m s risen (Restore bank name) reply after f step = faithful_refuses m reply after f step
 
 either : (b : Bool) (P Q R : Type 0) → (P → R) → (Q → R) → MatchBool b P Q → R
 either true P Q R f g h = f h
@@ -273,6 +307,21 @@ serial_runs m s risen Start reply after f step = serial_starts m s (m.sessions s
 serial_runs m s risen Commit reply after f step = serial_commits m s risen (m.sessions s) reply after refl f step
 serial_runs m s risen (Select what table w) reply after f step = serial_executes m s (Select what table w) (m.sessions s) reply after step
 serial_runs m s risen (Insert table tuples) reply after f step = serial_executes m s (Insert table tuples) (m.sessions s) reply after step
+serial_runs m s risen Rollback reply after f step = serial_refuses m s (m.sessions s) reply after step
+serial_runs m s risen (Update table sets w) reply after f step = serial_refuses m s (m.sessions s) reply after step
+serial_runs m s risen (Delete table w) reply after f step = serial_refuses m s (m.sessions s) reply after step
+serial_runs m s risen (CreateDatabank name) reply after f step = serial_refuses m s (m.sessions s) reply after step
+serial_runs m s risen (CreateTable name columns key bank) reply after f step = serial_refuses m s (m.sessions s) reply after step
+serial_runs m s risen (DropTable name) reply after f step = serial_refuses m s (m.sessions s) reply after step
+serial_runs m s risen (CreateShadow name bank) reply after f step = serial_refuses m s (m.sessions s) reply after step
+serial_runs m s risen (ShadowOnline name) reply after f step = serial_refuses m s (m.sessions s) reply after step
+serial_runs m s risen (ShadowOffline name) reply after f step = serial_refuses m s (m.sessions s) reply after step
+serial_runs m s risen (ShadowMaster name) reply after f step = serial_refuses m s (m.sessions s) reply after step
+serial_runs m s risen (DropShadow name) reply after f step = serial_refuses m s (m.sessions s) reply after step
+serial_runs m s risen (CreateBackup name bank) reply after f step = serial_refuses m s (m.sessions s) reply after step
+serial_runs m s risen (BackupReady name) reply after f step = serial_refuses m s (m.sessions s) reply after step
+serial_runs m s risen (DropBackup name) reply after f step = serial_refuses m s (m.sessions s) reply after step
+serial_runs m s risen (Restore bank name) reply after f step = serial_refuses m s (m.sessions s) reply after step
 
 as_told : (m : Machine) (s : ℕ) (reply : Reply) (after : Machine) → commits_at m s (m.sessions s) reply after → CommitsSerially m (Session s) reply after
 unfolding commits_at
@@ -290,14 +339,26 @@ serial_refused line m (Session s) (Committed k) after refusal = absurd refusal
 serial_refused line m (Session s) (Ended p) after refusal = absurd refusal
 serial_refused line m head reply after refusal = tt
 
+faithful_keeps : (m : Machine) (reply : Reply) (after : Machine) → IsFaithful m → Keeps m reply after → IsFaithful after
+faithful_keeps m NotYet after f step = moved m after step f
+faithful_keeps m reply after f step = absurd step
+
+faithful_event : (m : Machine) (event : Event) (risen : ℕ → Bool) (reply : Reply) (after : Machine) → IsFaithful m → Step m event risen reply after → IsFaithful after
+faithful_event m (OfSession s st) risen reply after f step = faithful_step m s st risen reply after f step
+faithful_event m (Upkeep control) risen reply after f step = faithful_keeps m reply after f step
+
+serial_event : (m : Machine) (event : Event) (risen : ℕ → Bool) (reply : Reply) (after : Machine) → IsFaithful m → Step m event risen reply after → CommitsSerially m (head_of event) reply after
+serial_event m (OfSession s st) risen reply after f step = serial_step m s st risen reply after f step
+serial_event m (Upkeep control) risen reply after f step = tt
+
 pub faithful_answer : (line : List ℕ) (m : Machine) (answer : Answer) → IsFaithful m → IsAnswer line m answer → IsFaithful answer.after
 faithful_answer line m answer f (inl refusal) = moved m answer.after refusal.1 f
-faithful_answer line m answer f (inr step) = faithful_step m step.0 step.1 answer.risen answer.reply answer.after f step.4
+faithful_answer line m answer f (inr step) = faithful_event m step.0 answer.risen answer.reply answer.after f step.3
 
 pub serial_answer : (line : List ℕ) (m : Machine) (answer : Answer) → IsFaithful m → IsAnswer line m answer → CommitsSerially m answer.head answer.reply answer.after
 serial_answer line m answer f (inl refusal) = serial_refused line m answer.head answer.reply answer.after refusal.0
 serial_answer line m answer f (inr step) =
-    subst (λ (head : Head). CommitsSerially m head answer.reply answer.after) (sym step.2) (serial_step m step.0 step.1 answer.risen answer.reply answer.after f step.4)
+    subst (λ (head : Head). CommitsSerially m head answer.reply answer.after) (sym step.2) (serial_event m step.0 answer.risen answer.reply answer.after f step.3)
 
 pub all_serial : (m : Machine) (lines : List (List ℕ)) (answers : List Answer) → IsFaithful m → IsRun m lines answers → AllSerial m answers
 all_serial m [] [] f run = tt

@@ -11,7 +11,7 @@ use Rattle.odb_values.specs.declared.value.Value.TheVariants.{Int}
 use Rattle.odb_model.specs.declared.write.Write.{Write}
 use Rattle.odb_model.specs.declared.reply.Reply.TheVariants.{Done, Duplicate, TooManyWrites}
 use Rattle.odb_model.specs.declared.statement.Statement.{Statement}
-use Rattle.odb_model.specs.declared.statement.Statement.TheVariants.{Start, Commit, Select, Insert}
+use Rattle.odb_model.specs.declared.statement.Statement.TheVariants.{Start, Commit, Select, Insert, Rollback, Update, Delete, CreateDatabank, CreateTable, DropTable, CreateShadow, ShadowOnline, ShadowOffline, ShadowMaster, DropShadow, CreateBackup, BackupReady, DropBackup, Restore}
 use Rattle.odb_model.specs.State.{Place, State, place_cmp, place_of}
 use Rattle.odb_model.specs.Table.{is_named, kv}
 use Rattle.odb_model.specs.Meaning.{meaning, refused, selected, inserted, put_of, put_all, has_duplicate, different, most_writes, is_built}
@@ -62,6 +62,21 @@ more_stored (Insert table tuples) s own built f =
       | true ↦ insert_more table tuples s own built f
       | false ↦ nothing_more own f
     ]
+more_stored Rollback s own built f = nothing_more own f
+more_stored (Update table sets w) s own built f = nothing_more own f
+more_stored (Delete table w) s own built f = nothing_more own f
+more_stored (CreateDatabank name) s own built f = nothing_more own f
+more_stored (CreateTable name columns key bank) s own built f = nothing_more own f
+more_stored (DropTable name) s own built f = nothing_more own f
+more_stored (CreateShadow name bank) s own built f = nothing_more own f
+more_stored (ShadowOnline name) s own built f = nothing_more own f
+more_stored (ShadowOffline name) s own built f = nothing_more own f
+more_stored (ShadowMaster name) s own built f = nothing_more own f
+more_stored (DropShadow name) s own built f = nothing_more own f
+more_stored (CreateBackup name bank) s own built f = nothing_more own f
+more_stored (BackupReady name) s own built f = nothing_more own f
+more_stored (DropBackup name) s own built f = nothing_more own f
+more_stored (Restore bank name) s own built f = nothing_more own f
 
 pub net_stored : (s : State) (own : List Write) → AreStorable own → IsStorableList (net s own)
 net_stored s own f =

@@ -7,7 +7,7 @@ use Rattle.std.proofs.lemmas.List.Elements.{Contains-append_left, Contains-appen
 use Rattle.odb_model.specs.declared.reply.Head.{Head}
 use Rattle.odb_model.specs.declared.reply.Head.TheVariants.{Session, Control, Unknown}
 use Rattle.odb_model.specs.declared.reply.Reply.{Reply}
-use Rattle.odb_model.specs.declared.reply.Reply.TheVariants.{Okay, Rows, Done, Committed, Ended, InDoubt, Line, NoSession, NotYet, NoTransaction, InTransaction, Duplicate, TooManyWrites, Halted, Conflict, Full, Fault, Memory}
+use Rattle.odb_model.specs.declared.reply.Reply.TheVariants.{Okay, Rows, Done, Committed, Ended, InDoubt, Character, Text, Number, Syntax, End, Long, Line, NoSession, NotYet, NoTransaction, InTransaction, Duplicate, TooManyWrites, Halted, Conflict, Full, Fault, Memory}
 use Rattle.odb_model.specs.Print.{head_text, line_of, row_line, reply_text}
 use Rattle.odb_model.specs.Script.{open_line}
 use Rattle.odb_model.specs.Told.{Tells}
@@ -89,6 +89,12 @@ reply-ended head (Done n) = line-ended head (codes "DONE " ++ decimal n)
 reply-ended head (Committed k) = line-ended head (codes "COMMITTED " ++ decimal k)
 reply-ended head (Ended p) = line-ended head (codes "ENDED " ++ decimal p)
 reply-ended head (InDoubt k) = line-ended head (codes "INDOUBT " ++ decimal k)
+reply-ended head (Character at) = line-ended head (codes "REFUSED CHARACTER " ++ decimal at)
+reply-ended head (Text at) = line-ended head (codes "REFUSED TEXT " ++ decimal at)
+reply-ended head (Number at) = line-ended head (codes "REFUSED NUMBER " ++ decimal at)
+reply-ended head (Syntax at) = line-ended head (codes "REFUSED SYNTAX " ++ decimal at)
+reply-ended head End = line-ended head (codes "REFUSED END")
+reply-ended head Long = line-ended head (codes "REFUSED LONG")
 reply-ended head Line = line-ended head (codes "REFUSED LINE")
 reply-ended head NoSession = line-ended head (codes "REFUSED NOSESSION")
 reply-ended head NotYet = line-ended head (codes "REFUSED NOTYET")

@@ -3,9 +3,15 @@ pub use Rattle.odb_values.specs.Text
 pub use Rattle.odb_values.specs.Value
 pub use Rattle.odb_values.specs.Key
 pub use Rattle.odb_values.specs.Range
+pub mod Lexeme
+pub mod Grammar
+pub mod Answer
+pub mod Canonical
+pub mod Control
 pub mod State
 pub mod Table
 pub mod Truth
+pub mod Joint
 pub mod Meaning
 pub mod Reads
 pub mod Transaction

@@ -3,7 +3,7 @@ use Rattle.std.specs.Prelude.{◌≡◌, ◌≢◌, ℕ, ◌+◌, ◌-◌, ◌<�
 use Rattle.odb_model.specs.declared.write.Write.{Write}
 use Rattle.odb_model.specs.declared.entry.Entry.{Entry}
 use Rattle.odb_model.specs.declared.event.Event.{Event}
-use Rattle.odb_model.specs.declared.event.Event.TheVariants.{Session}
+use Rattle.odb_model.specs.declared.event.Event.TheVariants.{Session, Control}
 use Rattle.odb_model.specs.declared.reply.Reply.{Reply}
 use Rattle.odb_model.specs.declared.reply.Reply.TheVariants.{Okay, Committed, Ended, InDoubt, NotYet, NoTransaction, InTransaction, Halted, Conflict, Full, Fault, Memory}
 use Rattle.odb_model.specs.declared.statement.Statement.{Statement}
@@ -127,7 +127,14 @@ Runs m s risen Start reply after = Starts m s (m.sessions s) reply after
 Runs m s risen Commit reply after = Commits m s risen (m.sessions s) reply after
 Runs m s risen (Select what table filter) reply after = Executes m s (Select what table filter) (m.sessions s) reply after
 Runs m s risen (Insert table tuples) reply after = Executes m s (Insert table tuples) (m.sessions s) reply after
+Runs m s risen other reply after = Refuses m reply after
+
+-- a step of upkeep, none of which is built
+abbrev pub Keeps : Machine → Reply → Machine → Type 0
+Keeps m NotYet after = after ≡ m
+Keeps m reply after = ⊥
 
 -- From m, an event in whose step the counts of these files rose may get this reply, and then leads to `after`
 abbrev pub Step : Machine → Event → (ℕ → Bool) → Reply → Machine → Type 0
 Step m (Session s st) risen reply after = MatchBool (is_built st) (Runs m s risen st reply after) (Refuses m reply after)
+Step m (Control control) risen reply after = Keeps m reply after

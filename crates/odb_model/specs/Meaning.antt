@@ -8,10 +8,10 @@ use Rattle.odb_model.specs.declared.reply.Reply.{Reply}
 use Rattle.odb_model.specs.declared.reply.Reply.TheVariants.{Okay, Rows, Done, NotYet, Duplicate, TooManyWrites}
 use Rattle.odb_model.specs.declared.statement.What.{What}
 use Rattle.odb_model.specs.declared.statement.What.TheVariants.{Columns}
-use Rattle.odb_model.specs.declared.statement.Operand.TheVariants.{Column as ColumnOf, Literal}
-use Rattle.odb_model.specs.declared.statement.Compare.TheVariants.{Gt}
-use Rattle.odb_model.specs.declared.statement.Predicate.{Predicate}
-use Rattle.odb_model.specs.declared.statement.Predicate.TheVariants.{Test}
+use Rattle.odb_model.specs.declared.predicate.Operand.TheVariants.{Column as ColumnOf, Literal}
+use Rattle.odb_model.specs.declared.predicate.Compare.TheVariants.{Gt}
+use Rattle.odb_model.specs.declared.predicate.Predicate.{Predicate}
+use Rattle.odb_model.specs.declared.predicate.Predicate.TheVariants.{Test}
 use Rattle.odb_model.specs.declared.statement.Statement.{Statement}
 use Rattle.odb_model.specs.declared.statement.Statement.TheVariants.{Start, Commit, Select, Insert}
 use Rattle.odb_model.specs.State.{Place, State, place_cmp, place_of, changed, rows_of}
@@ -26,9 +26,10 @@ pub record Meaning : Type 0 where
 abbrev pub refused : Reply → Meaning
 refused reply = record { reply = reply; writes = [] }
 
--- what SELECT tells of rows that are in column order
+-- what SELECT tells of rows that are in column order; all columns, COUNT and SUM aren't built
 abbrev pub told : List Column → What → List (List Value) → Reply
 told columns (Columns names) rows = Rows (map (λ values. map (column_value columns values) names) rows)
+told columns other rows = NotYet
 
 -- the rows of the table at which the filter is True, in key order, each in column order
 abbrev pub kept_rows : Table → Option Predicate → State → List (List Value)
@@ -70,18 +71,20 @@ abbrev pub inserted : Option Table → List (List Value) → State → List Plac
 inserted None tuples s written = refused NotYet
 inserted (Some t) tuples s written = put_all s written (map (put_of t) tuples)
 
--- the reply and the writes of a SELECT or an INSERT. START and COMMIT mean nothing on rows: the machine answers them.
+-- The reply and the writes of a SELECT or an INSERT. START and COMMIT mean nothing on rows: the machine answers them. The others aren't built
 -- `written` has the places that the transaction has written so far
 abbrev pub meaning : Statement → State → List Place → Meaning
 meaning Start s written = refused Okay
 meaning Commit s written = refused Okay
 meaning (Select what table filter_of) s written = selected (table_of s table) what filter_of s
 meaning (Insert table tuples) s written = inserted (table_of s table) tuples s written
+meaning other s written = refused NotYet
 
 abbrev is_k_alone : What → Bool
 is_k_alone (Columns []) = false
 is_k_alone (Columns (name ∷ [])) = is_named name (codes "K")
 is_k_alone (Columns (name ∷ other ∷ names)) = false
+is_k_alone other = false
 
 abbrev is_k_above_number : Option Predicate → Bool
 is_k_above_number (Some (Test Gt (ColumnOf name) (Literal (Int n)))) = is_named name (codes "K")
@@ -97,3 +100,4 @@ is_built Start = true
 is_built Commit = true
 is_built (Select what table filter_of) = is_k_alone what && is_named table (codes "KV") && is_k_above_number filter_of
 is_built (Insert table tuples) = is_named table (codes "KV") && is_pair_of_numbers tuples
+is_built other = false

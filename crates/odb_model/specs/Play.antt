@@ -1,16 +1,15 @@
 -- A script played: each line with its answer, and what is said.
 use Rattle.std.specs.Prelude.{◌≡◌, ◌⊎◌, ◌≢◌, ℕ, ◌+◌, ◌-◌, ◌^◌, ◌≤◌, ◌==◌, Bool, true, false, List, [], ◌∷◌, ◌++◌, flat_map, filter, length, take, MatchOption}
-use Rattle.odb_model.specs.declared.event.Event.TheVariants.{Session as OfSession}
+use Rattle.odb_model.specs.declared.event.Event.{Event}
 use Rattle.odb_model.specs.declared.reply.Head.{Head}
 use Rattle.odb_model.specs.declared.reply.Head.TheVariants.{Session}
 use Rattle.odb_model.specs.declared.reply.Reply.{Reply}
 use Rattle.odb_model.specs.declared.reply.Reply.TheVariants.{Committed, Ended, InDoubt, Fault}
-use Rattle.odb_model.specs.declared.statement.Statement.{Statement}
 use Rattle.odb_model.specs.declared.status.Status.{Status}
 use Rattle.odb_model.specs.declared.status.Status.TheVariants.{Done, Usage, ReadFault, WriteFault, FileFault, NoDatabase, Exists, Damaged, NotHeld, InputTooLong, NoMemory}
 use Rattle.odb_model.specs.Machine.{Machine, Step}
 use Rattle.odb_model.specs.Print.{reply_text}
-use Rattle.odb_model.specs.Script.{IsRequest, IsRefused, ended_lines, all_lines}
+use Rattle.odb_model.specs.Script.{IsRequest, IsRefused, head_of, ended_lines, all_lines}
 use Rattle.odb_model.specs.Serial.{IsSerial}
 
 -- one line answered: whom the reply names, the reply, the files whose counts rose in the step, and the machine after it
@@ -24,7 +23,7 @@ pub record Answer : Type 0 where
 abbrev pub IsAnswer : List ℕ → Machine → Answer → Type 0
 IsAnswer line m answer =
     (IsRefused line answer.head answer.reply × (answer.after ≡ m))
-    ⊎ ((s : ℕ) × (st : Statement) × (answer.head ≡ Session s) × IsRequest line s st × Step m (OfSession s st) answer.risen answer.reply answer.after)
+    ⊎ ((event : Event) × IsRequest line event × (answer.head ≡ head_of event) × Step m event answer.risen answer.reply answer.after)
 
 -- the lines answered one after another
 abbrev pub IsRun : Machine → List (List ℕ) → List Answer → Type 0

@@ -1,12 +1,12 @@
 -- The texts of replies.
-use Rattle.std.specs.Prelude.{ℕ, ◌==◌, List, [], ◌∷◌, ◌++◌, length, codes, flat_map, if◌then◌else◌}
-use Rattle.std.specs.Fmt.{decimal, signed_decimal}
+use Rattle.std.specs.Prelude.{ℕ, List, [], ◌∷◌, ◌++◌, length, codes, flat_map}
+use Rattle.std.specs.Fmt.{decimal}
 use Rattle.odb_values.specs.declared.value.Value.{Value}
-use Rattle.odb_values.specs.declared.value.Value.TheVariants.{Null, Int, Text}
 use Rattle.odb_model.specs.declared.reply.Head.{Head}
 use Rattle.odb_model.specs.declared.reply.Head.TheVariants.{Session, Control, Unknown}
 use Rattle.odb_model.specs.declared.reply.Reply.{Reply}
-use Rattle.odb_model.specs.declared.reply.Reply.TheVariants.{Okay, Rows, Done, Committed, Ended, InDoubt, Line, NoSession, NotYet, NoTransaction, InTransaction, Duplicate, TooManyWrites, Halted, Conflict, Full, Fault, Memory}
+use Rattle.odb_model.specs.declared.reply.Reply.TheVariants.{Okay, Rows, Done, Committed, Ended, InDoubt, Character, Text as TextReply, Number, Syntax, End, Long, Line, NoSession, NotYet, NoTransaction, InTransaction, Duplicate, TooManyWrites, Halted, Conflict, Full, Fault, Memory}
+use Rattle.odb_model.specs.Canonical.{value_text}
 
 abbrev pub head_text : Head → List ℕ
 head_text (Session s) = decimal s
@@ -16,16 +16,6 @@ head_text Unknown = codes "?"
 -- a reply line: whom it names, a space, its words and LF
 abbrev pub line_of : Head → List ℕ → List ℕ
 line_of head words = head_text head ++ codes " " ++ words ++ 10 ∷ []
-
--- each quote stands twice
-abbrev pub doubled : List ℕ → List ℕ
-doubled text = flat_map (λ b. if b == 39 then 39 ∷ 39 ∷ [] else b ∷ []) text
-
--- a number in decimals, NULL, or a text in quotes
-abbrev pub value_text : Value → List ℕ
-value_text Null = codes "NULL"
-value_text (Int n) = signed_decimal n
-value_text (Text t) = codes "'" ++ doubled t ++ codes "'"
 
 -- values with a comma between two
 abbrev pub values_text : List Value → List ℕ
@@ -47,6 +37,12 @@ reply_text head (Done n) = line_of head (codes "DONE " ++ decimal n)
 reply_text head (Committed k) = line_of head (codes "COMMITTED " ++ decimal k)
 reply_text head (Ended p) = line_of head (codes "ENDED " ++ decimal p)
 reply_text head (InDoubt k) = line_of head (codes "INDOUBT " ++ decimal k)
+reply_text head (Character at) = refused_line head (codes "CHARACTER " ++ decimal at)
+reply_text head (TextReply at) = refused_line head (codes "TEXT " ++ decimal at)
+reply_text head (Number at) = refused_line head (codes "NUMBER " ++ decimal at)
+reply_text head (Syntax at) = refused_line head (codes "SYNTAX " ++ decimal at)
+reply_text head End = refused_line head (codes "END")
+reply_text head Long = refused_line head (codes "LONG")
 reply_text head Line = refused_line head (codes "LINE")
 reply_text head NoSession = refused_line head (codes "NOSESSION")
 reply_text head NotYet = refused_line head (codes "NOTYET")

@@ -5,10 +5,10 @@ use Rattle.odb_values.specs.declared.value.Value.TheVariants.{Int, Text}
 use Rattle.odb_values.specs.declared.edge.Edge.TheVariants.{Free, Beyond}
 use Rattle.odb_values.specs.declared.range.Range.{Range}
 use Rattle.odb_values.specs.Value.{is_null}
-use Rattle.odb_model.specs.declared.statement.Compare.TheVariants.{Gt}
-use Rattle.odb_model.specs.declared.statement.Operand.TheVariants.{Column as ColumnOf, Literal}
-use Rattle.odb_model.specs.declared.statement.Predicate.{Predicate}
-use Rattle.odb_model.specs.declared.statement.Predicate.TheVariants.{Test}
+use Rattle.odb_model.specs.declared.predicate.Compare.TheVariants.{Gt}
+use Rattle.odb_model.specs.declared.predicate.Operand.TheVariants.{Column as ColumnOf, Literal}
+use Rattle.odb_model.specs.declared.predicate.Predicate.{Predicate}
+use Rattle.odb_model.specs.declared.predicate.Predicate.TheVariants.{Test}
 use Rattle.odb_model.specs.declared.statement.Statement.{Statement}
 use Rattle.odb_model.specs.declared.statement.Statement.TheVariants.{Start, Commit, Select, Insert}
 use Rattle.odb_model.specs.State.{State}
@@ -46,9 +46,11 @@ abbrev pub where_range : Option Table → Option Predicate → List Range
 where_range None filter_of = []
 where_range (Some t) filter_of = range_of t filter_of ∷ []
 
--- each statement on rows reads the dictionary's row of its table; a SELECT the range of its WHERE, an INSERT the point of each tuple
+-- Each statement on rows reads the dictionary's row of its table; a SELECT the range of its WHERE, an INSERT the point of each tuple.
+-- The others aren't built
 abbrev pub reads : Statement → State → List Range
 reads Start s = []
 reads Commit s = []
 reads (Select what table filter_of) s = dictionary_row table ∷ where_range (table_of s table) filter_of
 reads (Insert table tuples) s = dictionary_row table ∷ points_of (table_of s table) tuples
+reads other s = []

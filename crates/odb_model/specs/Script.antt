@@ -1,17 +1,16 @@
 -- Scripts: how bytes are cut into lines, and what a line says.
-use Rattle.std.specs.Prelude.{◌≡◌, ◌⊎◌, ℕ, ◌^◌, ◌<◌, ◌≤◌, pos, ◌==◌, List, [], ◌∷◌, ◌++◌, map, codes, Some, if◌then◌else◌}
+use Rattle.std.specs.Prelude.{◌≡◌, ℕ, ◌^◌, ◌<◌, ◌≤◌, ◌==◌, List, [], ◌∷◌, ◌++◌, length, map, codes, Err, if◌then◌else◌}
 use Rattle.std.specs.Fmt.{decimal}
-use Rattle.odb_values.specs.declared.value.Value.TheVariants.{Int}
+use Rattle.odb_lex.specs.declared.error.LexError.TheVariants.{BadCharacter, OpenText, NumberTooWide}
+use Rattle.odb_model.specs.declared.control.Control.{Control as Step}
+use Rattle.odb_model.specs.declared.event.Event.{Event}
+use Rattle.odb_model.specs.declared.event.Event.TheVariants.{Session as OfSession, Control as Upkeep}
 use Rattle.odb_model.specs.declared.reply.Head.{Head}
 use Rattle.odb_model.specs.declared.reply.Head.TheVariants.{Session, Control, Unknown}
 use Rattle.odb_model.specs.declared.reply.Reply.{Reply}
-use Rattle.odb_model.specs.declared.reply.Reply.TheVariants.{Line, NoSession, NotYet}
-use Rattle.odb_model.specs.declared.statement.What.TheVariants.{Columns}
-use Rattle.odb_model.specs.declared.statement.Operand.TheVariants.{Column as ColumnOf, Literal}
-use Rattle.odb_model.specs.declared.statement.Compare.TheVariants.{Gt}
-use Rattle.odb_model.specs.declared.statement.Predicate.TheVariants.{Test}
-use Rattle.odb_model.specs.declared.statement.Statement.{Statement}
-use Rattle.odb_model.specs.declared.statement.Statement.TheVariants.{Start, Commit, Select, Insert}
+use Rattle.odb_model.specs.declared.reply.Reply.TheVariants.{Line, NoSession, Long, Character, Text, Number, Syntax, End, Memory}
+use Rattle.odb_model.specs.Answer.{IsStatementText, Answers, Refusal, NoToken, Unexpected, End as Unfinished}
+use Rattle.odb_model.specs.Control.{IsControl}
 
 -- a byte goes onto the first of some parts
 abbrev pub onto_first : ℕ → List (List ℕ) → List (List ℕ)
@@ -61,45 +60,49 @@ pub record IsSessionLine (line : List ℕ) (session : ℕ) (text : List ℕ) : T
   pub few : session < 10 ^ 9
   pub spelled : line ≡ decimal session ++ codes " " ++ text
 
--- a control line begins with `! `
-abbrev pub IsControlLine : List ℕ → Type 0
-IsControlLine line = (rest : List ℕ) × (line ≡ codes "! " ++ rest)
-
--- INSERT INTO KV VALUES (a,b)
-abbrev pub insert_text : ℕ → ℕ → List ℕ
-insert_text a b = codes "INSERT INTO KV VALUES (" ++ decimal a ++ codes "," ++ decimal b ++ codes ")"
-
-abbrev pub insert_of : ℕ → ℕ → Statement
-insert_of a b = Insert (codes "KV") ((Int (pos a) ∷ Int (pos b) ∷ []) ∷ [])
-
--- SELECT K FROM KV WHERE K > a
-abbrev pub select_text : ℕ → List ℕ
-select_text a = codes "SELECT K FROM KV WHERE K > " ++ decimal a
-
-abbrev pub select_of : ℕ → Statement
-select_of a = Select (Columns (codes "K" ∷ [])) (codes "KV") (Some (Test Gt (ColumnOf (codes "K")) (Literal (Int (pos a)))))
-
--- a text spells a statement where it is one of these four texts, with numbers of 1 to 9 digits without a leading zero
-abbrev pub Spells : List ℕ → Statement → Type 0
-Spells text st =
-    ((text ≡ codes "START") × (st ≡ Start))
-    ⊎ ((text ≡ codes "COMMIT") × (st ≡ Commit))
-    ⊎ ((a : ℕ) × (b : ℕ) × (a < 10 ^ 9) × (b < 10 ^ 9) × (text ≡ insert_text a b) × (st ≡ insert_of a b))
-    ⊎ ((a : ℕ) × (a < 10 ^ 9) × (text ≡ select_text a) × (st ≡ select_of a))
+-- the line begins as control lines do
+abbrev pub BeginsAsControl : List ℕ → Type 0
+BeginsAsControl line = (rest : List ℕ) × (line ≡ codes "! " ++ rest)
 
 -- the sessions are those from 1 to 64
 abbrev pub IsSession : ℕ → Type 0
 IsSession s = (1 ≤ s) × (s ≤ 64)
 
--- the line asks this statement of this session
-abbrev pub IsRequest : List ℕ → ℕ → Statement → Type 0
-IsRequest line s st = (text : List ℕ) × IsSessionLine line s text × IsSession s × Spells text st
+-- the most bytes that the text of a statement may have
+abbrev pub most_text : ℕ
+most_text = 65536
 
--- The line is refused before any step, with this head and this reply. First whether it is a line at all, then whether
--- there is such a session, then whether its form is built
+-- the line gives this text to a session that there is, and it isn't too long
+pub record IsTextFor (line : List ℕ) (session : ℕ) (text : List ℕ) : Type 0 where
+  pub line_is : IsSessionLine line session text
+  pub there : IsSession session
+  pub short : length text ≤ most_text
+
+-- the line asks for this step: of a session by the statement that its text spells, or of upkeep by its form
+abbrev pub IsRequest : List ℕ → Event → Type 0
+IsRequest line (OfSession s st) = (text : List ℕ) × IsTextFor line s text × IsStatementText text st
+IsRequest line (Upkeep control) = IsControl line control
+
+-- whom the answer to a step names
+abbrev pub head_of : Event → Head
+head_of (OfSession s st) = Session s
+head_of (Upkeep control) = Control
+
+-- the line's text is refused so
+abbrev pub IsTextRefused : List ℕ → ℕ → Refusal → Type 0
+IsTextRefused line s refusal = (text : List ℕ) × IsTextFor line s text × Answers text (Err refusal)
+
+-- The line is refused before any step, with this head and this reply. First whether it is a line at all, then whether there is such a
+-- session, then whether its text is short enough, then what the text spells. Memory may run out while a text is read
 abbrev pub IsRefused : List ℕ → Head → Reply → Type 0
-IsRefused line Unknown Line = ((s : ℕ) (text : List ℕ) → IsSessionLine line s text → ⊥) × (IsControlLine line → ⊥)
+IsRefused line Unknown Line = ((s : ℕ) (text : List ℕ) → IsSessionLine line s text → ⊥) × (BeginsAsControl line → ⊥)
+IsRefused line Control Line = BeginsAsControl line × ((control : Step) → IsControl line control → ⊥)
 IsRefused line (Session s) NoSession = (text : List ℕ) × IsSessionLine line s text × (IsSession s → ⊥)
-IsRefused line (Session s) NotYet = (text : List ℕ) × IsSessionLine line s text × IsSession s × ((st : Statement) → Spells text st → ⊥)
-IsRefused line Control NotYet = IsControlLine line
+IsRefused line (Session s) Long = (text : List ℕ) × IsSessionLine line s text × IsSession s × (most_text < length text)
+IsRefused line (Session s) (Character at) = IsTextRefused line s (NoToken (BadCharacter at))
+IsRefused line (Session s) (Text at) = IsTextRefused line s (NoToken (OpenText at))
+IsRefused line (Session s) (Number at) = IsTextRefused line s (NoToken (NumberTooWide at))
+IsRefused line (Session s) (Syntax at) = IsTextRefused line s (Unexpected at)
+IsRefused line (Session s) End = IsTextRefused line s Unfinished
+IsRefused line (Session s) Memory = (text : List ℕ) × IsTextFor line s text
 IsRefused line head reply = ⊥

@@ -1,4 +1,4 @@
-use crate::Statement;
+use crate::{Control, Statement};
 use odb_values::Duplicate;
 use std::alloc::{AllocError, Global};
 
@@ -7,6 +7,8 @@ use std::alloc::{AllocError, Global};
 pub enum Event {
     /// A statement of a session from 1 to 64.
     Session { session: u32, statement: Statement },
+    /// A step of upkeep.
+    Control(Control),
 }
 
 impl Duplicate for Event {
@@ -16,6 +18,7 @@ impl Duplicate for Event {
                 session: *session,
                 statement: statement.copy(alloc)?,
             }),
+            Event::Control(control) => Ok(Event::Control(*control)),
         }
     }
 }

@@ -5,22 +5,36 @@
 //! transaction is serial. The laws about them are the contracts of the functions in `laws`.
 #![tactic(auto)]
 
+mod control;
 mod entry;
 mod event;
+mod joint;
+mod keyword;
 mod laws;
 mod outcome;
+mod predicate;
 mod reply;
 mod side;
+mod sign;
 mod statement;
 mod status;
+mod truth;
 mod write;
 
+pub use control::Control;
 pub use entry::{Entries, Entry};
 pub use event::Event;
+pub use keyword::Keyword;
 pub use laws::{agrees_on_reads, answers_alone, runs_serially, stays_storable};
 pub use outcome::{Outcome, Ranges, Read};
+pub use predicate::{Compare, Operand, Predicate};
 pub use reply::{Head, Reply};
 pub use side::OtherSide;
-pub use statement::{Compare, Names, Operand, Predicate, Statement, Truth, ValueRows, What};
+pub use sign::Sign;
+pub use statement::{
+    Assignment, Assignments, ColumnText, ColumnTexts, Expression, Names, Statement, Term, Terms,
+    ValueRows, What,
+};
 pub use status::Status;
+pub use truth::Truth;
 pub use write::{Write, Writes};

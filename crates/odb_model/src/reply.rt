@@ -29,7 +29,19 @@ pub enum Reply {
     /// It isn't known whether COMMIT is done: the entry of this number may be there. The transaction is over, and until the
     /// files are opened again every COMMIT is refused.
     InDoubt(u64),
-    /// The line is no line of a script.
+    /// A byte of the statement's text, at this place from 0, can't stand there.
+    Character(u64),
+    /// The quoted text whose first quote stands at this place of the statement's text has no end.
+    Text(u64),
+    /// The number at this place of the statement's text is above 9223372036854775808.
+    Number(u64),
+    /// No statement goes on with the token at this place of the statement's text.
+    Syntax(u64),
+    /// The statement's text ends where a statement wants more.
+    End,
+    /// The statement's text has more than 65,536 bytes.
+    Long,
+    /// The line is no line of a script: neither that of a session nor a control line of a known form.
     Line,
     /// The session's number is 0 or above 64.
     NoSession,
@@ -65,6 +77,12 @@ impl Duplicate for Reply {
             Reply::Committed(number) => Ok(Reply::Committed(*number)),
             Reply::Ended(number) => Ok(Reply::Ended(*number)),
             Reply::InDoubt(number) => Ok(Reply::InDoubt(*number)),
+            Reply::Character(at) => Ok(Reply::Character(*at)),
+            Reply::Text(at) => Ok(Reply::Text(*at)),
+            Reply::Number(at) => Ok(Reply::Number(*at)),
+            Reply::Syntax(at) => Ok(Reply::Syntax(*at)),
+            Reply::End => Ok(Reply::End),
+            Reply::Long => Ok(Reply::Long),
             Reply::Line => Ok(Reply::Line),
             Reply::NoSession => Ok(Reply::NoSession),
             Reply::NotYet => Ok(Reply::NotYet),

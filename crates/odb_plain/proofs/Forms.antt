@@ -14,12 +14,14 @@ use Rattle.odb_values.specs.ValueOrder.{value_cmp_total}
 use Rattle.odb_values.specs.Range.{passes_low}
 use Rattle.odb_model.specs.declared.write.Write.{Write}
 use Rattle.odb_model.specs.declared.reply.Reply.TheVariants.{Rows, Done, Duplicate, TooManyWrites}
-use Rattle.odb_model.specs.declared.statement.Compare.TheVariants.{Gt}
+use Rattle.odb_model.specs.declared.predicate.Compare.TheVariants.{Gt}
+use Rattle.odb_model.specs.declared.predicate.Operand.TheVariants.{Column as ColumnOf, Literal}
 use Rattle.odb_model.specs.State.{Place, State, place_of, is_in, part_in, rows_of}
 use Rattle.odb_model.specs.Table.{column_value, kv, in_columns}
 use Rattle.odb_model.specs.Truth.{truth_if, holds, compared, is_true, keeps}
 use Rattle.odb_model.specs.Meaning.{refused, put_of, put_all, different, most_writes, selected, kept_rows}
 use Rattle.odb_model.specs.Reads.{point_of, range_of}
+use Rattle.odb_model.proofs.Agree.{truth_of-test}
 use Rattle.odb_model.proofs.Parts.{filter-filter, filter-map, filter-same, entries-retain_keys}
 use Rattle.odb_plain.specs.Form.{key_alone, key_above, pair_of}
 use Rattle.odb_plain.proofs.Inside.{get-part_in}
@@ -84,7 +86,9 @@ with_true false b = refl
 
 -- the range of a comparison with a number has the rows at which it is True, and no others
 same_test : (n : ℤ) (e : Place × List Value) → ((5 == e.0.0) && keeps kv.columns (key_above n) (laid e)) ≡ is_in (range_of kv (key_above n)) e.0
-same_test n e = ap (λ b. (5 == e.0.0) && b) (sym (beyond n e.0.1)) ∙ sym (with_true (5 == e.0.0) (passes_low (Beyond (Int n)) e.0.1))
+same_test n e =
+    ap (λ t. (5 == e.0.0) && is_true t) (truth_of-test kv.columns (laid e) Gt (ColumnOf (codes "K")) (Literal (Int n)))
+    ∙ ap (λ b. (5 == e.0.0) && b) (sym (beyond n e.0.1)) ∙ sym (with_true (5 == e.0.0) (passes_low (Beyond (Int n)) e.0.1))
 
 kept : (n : ℤ) (s : State) → kept_rows kv (key_above n) s ≡ map laid (entries (part_in (range_of kv (key_above n)) s))
 kept n s =

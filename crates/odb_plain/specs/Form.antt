@@ -4,10 +4,10 @@ use Rattle.odb_values.specs.declared.value.Value.{Value}
 use Rattle.odb_values.specs.declared.value.Value.TheVariants.{Int}
 use Rattle.odb_model.specs.declared.statement.What.{What}
 use Rattle.odb_model.specs.declared.statement.What.TheVariants.{Columns}
-use Rattle.odb_model.specs.declared.statement.Compare.TheVariants.{Gt}
-use Rattle.odb_model.specs.declared.statement.Operand.TheVariants.{Column as ColumnOf, Literal}
-use Rattle.odb_model.specs.declared.statement.Predicate.{Predicate}
-use Rattle.odb_model.specs.declared.statement.Predicate.TheVariants.{Test}
+use Rattle.odb_model.specs.declared.predicate.Compare.TheVariants.{Gt}
+use Rattle.odb_model.specs.declared.predicate.Operand.TheVariants.{Column as ColumnOf, Literal}
+use Rattle.odb_model.specs.declared.predicate.Predicate.{Predicate}
+use Rattle.odb_model.specs.declared.predicate.Predicate.TheVariants.{Test}
 use Rattle.odb_model.specs.declared.statement.Statement.{Statement}
 use Rattle.odb_model.specs.declared.statement.Statement.TheVariants.{Start, Commit, Select, Insert}
 use Rattle.odb_plain.specs.declared.form.Form.{Form}

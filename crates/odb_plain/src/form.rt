@@ -52,6 +52,7 @@ pub(crate) fn form_of(statement: &Statement) -> Option<Form>
             let (key, value) = pair_in(tuples)?;
             Some(Form::Insert { key, value })
         }
+        _ => None,
     }
 }
 
@@ -61,6 +62,7 @@ fn is_key_alone(what: &What) -> bool
 {
     match what {
         What::Columns(names) => is_alone(names.as_slice(), "K"),
+        _ => false,
     }
 }
 

@@ -3,7 +3,9 @@ ghost use Rattle.std.specs.Bool.{OnTrue};
 ghost use Rattle.odb_model.specs.Meaning.{is_built};
 
 use super::*;
-use odb_model::{Compare, Entry, Operand, Predicate, Ranges, Read, Reply, Statement, What, Write};
+use odb_model::{
+    Compare, Entry, Operand, Outcome, Predicate, Ranges, Read, Reply, Statement, What, Write,
+};
 use odb_values::{Edge, Frozen, Key, List, Range, Row, Same, Text, Value, Values, is_keyed};
 use std::alloc::{AllocError, Global};
 use std::test::Fail;
@@ -115,39 +117,63 @@ fn listed(alloc: Global, writes: &[Write]) -> Result<String, Fail> {
     Ok(line)
 }
 
-/// What a statement answers and writes where the history has the keys 3 and 9 of KV and a key of
-/// another table, and the transaction has put 7 and deleted 3.
-fn answer(alloc: Global, statement: Statement) -> Result<String, Fail> {
+/// What a statement does where the history has the keys 3 and 9 of KV and a key of another table, and the
+/// transaction has put 7 and deleted 3.
+fn outcome(alloc: Global, statement: &Statement) -> Result<Outcome, Fail> {
     let history = history(
         alloc,
         &[(5, 3, Some(30)), (5, 9, Some(90)), (7, 8, Some(80))],
     )?;
     let own = writes(alloc, &[(5, 7, Some(70)), (5, 3, None)])?;
-    if !is_built(&statement) {
+    if !is_built(statement) {
         return Err(Fail::new("not built"));
     }
-    let outcome = execute(alloc, &statement, &history, &own)?;
+    Ok(execute(alloc, statement, &history, &own)?)
+}
+
+/// What it answers and writes there, as a line of text.
+fn answer(alloc: Global, statement: &Statement) -> Result<String, Fail> {
+    let outcome = outcome(alloc, statement)?;
     let mut line = told(alloc, &outcome.reply)?;
     line.push_str(listed(alloc, outcome.writes.as_slice())?.as_str())?;
     Ok(line)
 }
 
+/// Whether a statement answers and writes so there.
+fn answers(alloc: Global, statement: &Statement, line: &str) -> Result<bool, Fail> {
+    Ok(answer(alloc, statement)?.as_str() == line)
+}
+
+/// Whether START and COMMIT do nothing there.
+fn starts(alloc: Global) -> Result<bool, Fail> {
+    let start = answers(alloc, &Statement::Start, "Okay")?;
+    let commit = answers(alloc, &Statement::Commit, "Okay")?;
+    Ok(start && commit)
+}
+
+fn selects(alloc: Global, number: i64, line: &str) -> Result<bool, Fail> {
+    let statement = select(alloc, "K", number)?;
+    answers(alloc, &statement, line)
+}
+
+fn inserts(alloc: Global, number: i64, line: &str) -> Result<bool, Fail> {
+    let statement = insert(alloc, "KV", &[number, 1])?;
+    answers(alloc, &statement, line)
+}
+
 #[test]
 fn forms_execute(rt: HostRuntime) -> Result<(), Fail> {
     let alloc = rt.alloc();
-    assert_eq!(rt; answer(alloc, Statement::Start)?.as_str(), "Okay");
-    assert_eq!(rt; answer(alloc, Statement::Commit)?.as_str(), "Okay");
+    assert!(rt; starts(alloc)?);
     for (number, line) in [(2, "Rows(2) [Int(7)] [Int(9)]"), (7, "Rows(1) [Int(9)]")] {
-        let statement = select(alloc, "K", number)?;
-        assert_eq!(rt; answer(alloc, statement)?.as_str(), line);
+        assert!(rt; selects(alloc, number, line)?);
     }
     for (number, line) in [
         (3, "Done(1) 5 [Int(3)] Some([Int(1)])"),
         (7, "Duplicate"),
         (9, "Duplicate"),
     ] {
-        let statement = insert(alloc, "KV", &[number, 1])?;
-        assert_eq!(rt; answer(alloc, statement)?.as_str(), line);
+        assert!(rt; inserts(alloc, number, line)?);
     }
     Ok(())
 }

@@ -1,5 +1,5 @@
 -- How the parts of a script's play follow one another, and how it ends.
-use Rattle.std.proofs.Common.{◌≡◌, ◌≢◌, ℕ, ◌+◌, ◌-◌, Bool, true, false, List, [], ◌∷◌, ◌++◌, length, take, refl, sym, ap, subst, ◌∙◌, arith, inl, inr, append_assoc, eq-eqb, eqb-true}
+use Rattle.std.proofs.Common.{◌≡◌, ◌≢◌, ℕ, zero, suc, ◌+◌, ◌-◌, ◌≤◌, Bool, true, false, List, [], ◌∷◌, ◌++◌, length, take, refl, sym, ap, subst, ◌∙◌, arith, inl, inr, append_assoc, eq-eqb, eqb-true}
 use Rattle.std.specs.Prelude.{◌==◌, Result, Ok, Err}
 use Rattle.std.proofs.lemmas.List.{append-nil, take_all, take-append-le}
 use Rattle.std.proofs.Math.Seq.{take-append_seam, take-length}
@@ -244,10 +244,15 @@ module _ (fronts_tell : FrontsTell) where
       finish_line_under h m held kept b rest input answers result after old new at line
       (subst (λ (x : Header). LineEnds x (shown_last kept) (machine_after m answers) result after old new) at.header ends)
 
+-- a front of a byte or more of what has a byte has one too
+some_taken : (n b : ℕ) (rest : List ℕ) → 1 ≤ n → take n (b ∷ rest) ≡ [] → ⊥
+some_taken zero b rest long none = omega arith
+some_taken (suc n) b rest long none = cc
+
 -- nothing is kept just where no line is left open
 pub open_none : (kept o : List ℕ) → kept ≡ kept_of o → kept ≡ [] → o ≡ []
 open_none kept [] same none = refl
-open_none kept (b ∷ rest) same none = let wrong : kept_of (b ∷ rest) ≡ [] = sym same ∙ none in cc
+open_none kept (b ∷ rest) same none = absurd (some_taken (FRONT + 1) b rest (omega arith) (sym same ∙ none))
 
 pub open_some : (o : List ℕ) (kept : List ℕ) → kept ≡ kept_of o → kept ≢ [] → (b : ℕ) × (rest : List ℕ) × (o ≡ b ∷ rest)
 open_some [] kept same some = absurd (some same)

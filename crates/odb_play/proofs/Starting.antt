@@ -1,12 +1,12 @@
 -- What an opening leaves, and a play behind it.
-use Rattle.std.proofs.Common.{◌≡◌, inl, inr, ℕ, ◌+◌, ◌-◌, ◌≤◌, Bool, false, List, [], ◌∷◌, length, drop, Option, Some, None, refl, sym, ◌∙◌, ap, subst, arith}
-use Rattle.std.specs.Prelude.{IsSome, IfSome, is_some, Ok, take}
+use Rattle.std.proofs.Common.{◌≡◌, inl, inr, ℕ, ◌+◌, ◌-◌, Bool, false, List, [], ◌∷◌, length, drop, Option, Some, None, refl, sym, ◌∙◌, ap, subst, arith}
+use Rattle.std.specs.Prelude.{IsSome, IfSome, is_some, take}
 use Rattle.std.proofs.lemmas.Bool.{cases_lt}
 use Rattle.odb_device.specs.World.{File, Moment, Talk, World, present, file_of, IsTold}
 use Rattle.odb_device.specs.Images.{EachImage}
 use Rattle.odb_device.specs.Counts.{Adds}
 use Rattle.odb_device.specs.Moments.{Runs, AreImages}
-use Rattle.odb_device.proofs.Time.{joins, weakens, run_end}
+use Rattle.odb_device.proofs.Time.{run_end}
 use Rattle.odb_model.specs.declared.entry.Entry.{Entry}
 use Rattle.odb_model.specs.declared.status.Status.{Status}
 use Rattle.odb_model.specs.declared.status.Status.TheVariants.{Done, Usage, ReadFault, WriteFault, FileFault, NoDatabase, Exists, Damaged, NotHeld, InputTooLong, NoMemory}
@@ -20,7 +20,7 @@ use Rattle.odb_transdb.specs.declared.header.Header.{Header}
 use Rattle.odb_transdb.specs.Header.{first_held, active_first}
 use Rattle.odb_transdb.specs.Opened.{Opened, holding, opened, entries_of, entries_in}
 use Rattle.odb_transdb.specs.Standing.{Db, Stands, IsPlaced}
-use Rattle.odb_transdb.specs.Answers.{IsOpenAnswer, KeepsOpened}
+use Rattle.odb_transdb.specs.Answers.{KeepsOpened}
 use Rattle.odb_system.specs.Held.{Held, StandsFor, Begins, side_of}
 use Rattle.odb_system.specs.Durable.{IsDurableBy}
 use Rattle.odb_play.specs.Outside.{RoseBy}
@@ -32,16 +32,6 @@ use Rattle.odb_play.specs.Opening.{IsOpeningOf, IsPlayedFrom, IsRefused, PlayOut
 use Rattle.odb_play.proofs.Outside.{touches_run, touches_then, rose_by_wider, rise_wider}
 use Rattle.odb_play.proofs.Steps.{goes_none, goes_then, history_goes, history_within, answer_leaves}
 use Rattle.odb_play.proofs.Parts.{at_each, since_same}
-
--- the reading behind an opening changes nothing
-pub reads_on : (old mid new : World) → Runs 0 (KeepsOpened (file_of 0 old)) old mid → Runs 0 (λ f. f ≡ file_of 0 mid) mid new → Runs 0 (KeepsOpened (file_of 0 old)) old new
-reads_on old mid new first second =
-    let here : KeepsOpened (file_of 0 old) (file_of 0 mid) = run_end 0 (KeepsOpened (file_of 0 old)) old mid first in
-    joins 0 (KeepsOpened (file_of 0 old)) old mid new first
-    (weakens 0 (λ f. f ≡ file_of 0 mid) (KeepsOpened (file_of 0 old)) mid new (λ f same. subst (KeepsOpened (file_of 0 old)) (sym same) here) second)
-
-pub read_same : (mid new : World) → Runs 0 (λ f. f ≡ file_of 0 mid) mid new → file_of 0 new ≡ file_of 0 mid
-read_same mid new run = run_end 0 (λ f. f ≡ file_of 0 mid) mid new run
 
 -- each image opens to these entries still
 keeps_opens : (es : List Entry) (old now : Option File) → IsSome old → EachImage (OpensTo es) old → KeepsOpened old now → EachImage (OpensTo es) now
@@ -223,47 +213,33 @@ no_file_fault m status file old new played same = let P : Status → Type 0 = λ
 
 -- the log begins with the entries read
 
-pub begins_with : (db : Db) (es : List Entry) → first_held db.header ≡ 1 → db.active.in_doubt ≡ false → IsPlaced db → IsNumberedFrom 1 es → (1 ≤ db.active.next → 1 + length es ≡ db.active.next)
-    → (1 ≤ active_first db.header → records_width (drop (active_first db.header - 1) es) ≡ db.active.place - db.active.start) → Begins db es
+pub begins_with : (db : Db) (es : List Entry) → first_held db.header ≡ 1 → db.active.in_doubt ≡ false → IsPlaced db → IsNumberedFrom (first_held db.header) es → first_held db.header + length es ≡ db.active.next
+    → records_width (drop (active_first db.header - first_held db.header) es) ≡ db.active.place - db.active.start → Begins db es
 begins_with db es whole usable placed numbered next width = record {
-  numbered = numbered;
+  numbered = subst (λ (n : ℕ). IsNumberedFrom n es) whole numbered;
   first = whole;
-  next = let end : 1 + length es ≡ db.active.next = next (omega (arith, placed.some, placed.from)) in omega arith;
-  filled = width placed.some;
+  next = omega (arith, next, whole);
+  filled = subst (λ (n : ℕ). records_width (drop (active_first db.header - n) es) ≡ db.active.place - db.active.start) whole width;
   usable = usable;
   placed = placed;
 }
 
-entries_read : (db : Db) (es : List Entry) (old mid : Option File) → is_some mid ≡ is_some old → IfSome old (λ f. IsOpenAnswer (Ok db) (opened f.bytes)) → entries_in mid ≡ entries_in old
-    → IfSome mid (λ f. es ≡ entries_in (Some f)) → IfSome old (λ f. opened f.bytes ≡ holding db.header es)
-entries_read db es None mid told answer same read = tt
-entries_read db es (Some f) None told answer same read = cc
-entries_read db es (Some f) (Some g) told answer same read = answer.1 ∙ ap (holding db.header) (sym (read ∙ same ∙ ap entries_of answer.1))
+-- the file that is left holds them
+holds_read : (h : Header) (es : List Entry) (old now : Option File) → is_some now ≡ is_some old → IfSome old (λ f. opened f.bytes ≡ holding h es) → entries_in now ≡ entries_in old → IfSome now (λ f. entries_in (Some f) ≡ es)
+holds_read h es old None told opens same = tt
+holds_read h es None (Some g) told opens same = absurd (cc told)
+holds_read h es (Some f) (Some g) told opens same = same ∙ ap entries_of opens
 
--- from the first on
-all_read : (n : ℕ) (es : List Entry) (file : Option File) → n ≡ 1 → IfSome file (λ f. es ≡ drop (1 - n) (entries_in (Some f))) → IfSome file (λ f. es ≡ entries_in (Some f))
-all_read n es None one read = tt
-all_read n es (Some f) one read = read ∙ ap (λ k. drop (1 - k) (entries_in (Some f))) one
-
-read_back : (es history : List Entry) (file : Option File) → history ≡ es → IfSome file (λ f. es ≡ entries_in (Some f)) → IfSome file (λ f. entries_in (Some f) ≡ history)
-read_back es history None same read = tt
-read_back es history (Some f) same read = sym (same ∙ read)
-
-pub started_with : (held : Held) (db : Db) (es : List Entry) (old mid new : World) → Runs 0 (KeepsOpened (file_of 0 old)) old mid → Runs 0 (λ f. f ≡ file_of 0 mid) mid new
-    → IfSome (file_of 0 old) (λ f. IsOpenAnswer (Ok db) (opened f.bytes)) → entries_in (file_of 0 mid) ≡ entries_in (file_of 0 old) → Stands db (file_of 0 mid)
-    → first_held db.header ≡ 1 → IfSome (file_of 0 mid) (λ f. es ≡ drop (1 - first_held db.header) (entries_in (Some f)))
-    → StandsFor held (first_machine (side_of db.header) es) → held.history ≡ es → held.transdb ≡ db → IsStarted held old new
-started_with held db es old mid new run read answer same stands whole given is history transdb =
-    let got : IfSome (file_of 0 mid) (λ f. es ≡ entries_in (Some f)) = all_read (first_held db.header) es (file_of 0 mid) whole given in
-    let file : file_of 0 mid ≡ file_of 0 new = sym (read_same mid new read) in
-    let opens : IfSome (file_of 0 old) (λ f. opened f.bytes ≡ holding db.header es) =
-    entries_read db es (file_of 0 old) (file_of 0 mid) (run.only.told mid.time run.only.later (omega arith)) answer same got in
+pub started_with : (held : Held) (db : Db) (es : List Entry) (old new : World) → Runs 0 (KeepsOpened (file_of 0 old)) old new → IfSome (file_of 0 old) (λ f. opened f.bytes ≡ holding db.header es)
+    → entries_in (file_of 0 new) ≡ entries_in (file_of 0 old) → Stands db (file_of 0 new) → first_held db.header ≡ 1 → StandsFor held (first_machine (side_of db.header) es) → held.history ≡ es → held.transdb ≡ db → IsStarted held old new
+started_with held db es old new run opens same stands whole is history transdb =
+    let got : IfSome (file_of 0 new) (λ f. entries_in (Some f) ≡ es) = holds_read db.header es (file_of 0 old) (file_of 0 new) (run.only.told new.time run.only.later (omega arith)) opens same in
     record {
       stands = subst (λ (d : Db). StandsFor held (first_machine (side_of d.header) held.history)) (sym transdb)
           (subst (λ (x : List Entry). StandsFor held (first_machine (side_of db.header) x)) (sym history) is);
       durable = subst (λ d. IsDurableBy d held (file_of 0 new)) (sym is.in_doubt) (
-        subst (λ (d : Db). Stands d (file_of 0 new)) (sym transdb) (subst (λ (o : Option File). Stands db o) file stands),
-        read_back es held.history (file_of 0 new) history (subst (λ (o : Option File). IfSome o (λ f. es ≡ entries_in (Some f))) file got),
+        subst (λ (d : Db). Stands d (file_of 0 new)) (sym transdb) stands,
+        subst (λ (x : List Entry). IfSome (file_of 0 new) (λ f. entries_in (Some f) ≡ x)) (sym history) got,
       );
       opens = subst (λ (d : Db). IfSome (file_of 0 old) (λ f. opened f.bytes ≡ holding d.header held.history)) (sym transdb)
           (subst (λ (x : List Entry). IfSome (file_of 0 old) (λ f. opened f.bytes ≡ holding db.header x)) (sym history) opens);

@@ -5,17 +5,18 @@ use Rattle.std.proofs.lemmas.List.{append-nil}
 use Rattle.std.proofs.Math.Seq.{take-append_seam}
 use Rattle.odb_model.specs.declared.write.Write.{Write}
 use Rattle.odb_model.specs.declared.entry.Entry.{Entry}
-use Rattle.odb_model.specs.declared.event.Event.TheVariants.{Session as OfSession}
+use Rattle.odb_model.specs.declared.event.Event.{Event}
+use Rattle.odb_model.specs.declared.event.Event.TheVariants.{Session as OfSession, Control as Upkeep}
 use Rattle.odb_model.specs.declared.reply.Head.{Head}
 use Rattle.odb_model.specs.declared.reply.Head.TheVariants.{Session, Control, Unknown}
 use Rattle.odb_model.specs.declared.reply.Reply.{Reply}
 use Rattle.odb_model.specs.declared.reply.Reply.TheVariants.{Okay, Committed, Ended, InDoubt, NotYet, NoTransaction, InTransaction, Halted, Conflict, Full, Fault, Memory}
 use Rattle.odb_model.specs.declared.statement.Statement.{Statement}
-use Rattle.odb_model.specs.declared.statement.Statement.TheVariants.{Start, Commit, Select, Insert}
+use Rattle.odb_model.specs.declared.statement.Statement.TheVariants.{Start, Commit, Select, Insert, Rollback, Update, Delete, CreateDatabank, CreateTable, DropTable, CreateShadow, ShadowOnline, ShadowOffline, ShadowMaster, DropShadow, CreateBackup, BackupReady, DropBackup, Restore}
 use Rattle.odb_model.specs.State.{after_writes, replay}
 use Rattle.odb_model.specs.Meaning.{is_built}
 use Rattle.odb_model.specs.Transaction.{Exchange, own_writes, places}
-use Rattle.odb_model.specs.Machine.{Machine, with_session, with_doubt, perhaps, exchange_now, net_of, next_entry, with_entry, in_doubt_of, Starts, Executes, Decides, DecidesBy, Commits, Refuses, Runs, Step}
+use Rattle.odb_model.specs.Machine.{Machine, with_session, with_doubt, perhaps, exchange_now, net_of, next_entry, with_entry, in_doubt_of, Starts, Executes, Decides, DecidesBy, Commits, Refuses, Keeps, Runs, Step}
 use Rattle.odb_model.specs.Script.{IsRefused}
 use Rattle.odb_model.specs.Play.{Answer, IsAnswer, tells_fault}
 use Rattle.odb_model.proofs.Runs.{is_meant, not_meant}
@@ -140,6 +141,21 @@ leaves_runs m s risen Start reply after step = leaves_starts m s risen (m.sessio
 leaves_runs m s risen Commit reply after step = leaves_commits m s risen (m.sessions s) reply after step
 leaves_runs m s risen (Select what table w) reply after step = leaves_executes m s (Select what table w) risen (m.sessions s) reply after step
 leaves_runs m s risen (Insert table tuples) reply after step = leaves_executes m s (Insert table tuples) risen (m.sessions s) reply after step
+leaves_runs m s risen Rollback reply after step = leaves_refuses m risen reply after step
+leaves_runs m s risen (Update table sets w) reply after step = leaves_refuses m risen reply after step
+leaves_runs m s risen (Delete table w) reply after step = leaves_refuses m risen reply after step
+leaves_runs m s risen (CreateDatabank name) reply after step = leaves_refuses m risen reply after step
+leaves_runs m s risen (CreateTable name columns key bank) reply after step = leaves_refuses m risen reply after step
+leaves_runs m s risen (DropTable name) reply after step = leaves_refuses m risen reply after step
+leaves_runs m s risen (CreateShadow name bank) reply after step = leaves_refuses m risen reply after step
+leaves_runs m s risen (ShadowOnline name) reply after step = leaves_refuses m risen reply after step
+leaves_runs m s risen (ShadowOffline name) reply after step = leaves_refuses m risen reply after step
+leaves_runs m s risen (ShadowMaster name) reply after step = leaves_refuses m risen reply after step
+leaves_runs m s risen (DropShadow name) reply after step = leaves_refuses m risen reply after step
+leaves_runs m s risen (CreateBackup name bank) reply after step = leaves_refuses m risen reply after step
+leaves_runs m s risen (BackupReady name) reply after step = leaves_refuses m risen reply after step
+leaves_runs m s risen (DropBackup name) reply after step = leaves_refuses m risen reply after step
+leaves_runs m s risen (Restore bank name) reply after step = leaves_refuses m risen reply after step
 
 either : (b : Bool) (P Q R : Type 0) → (P → R) → (Q → R) → MatchBool b P Q → R
 either true P Q R f g h = f h
@@ -148,6 +164,14 @@ either false P Q R f g h = g h
 leaves_step : (m : Machine) (s : ℕ) (st : Statement) (risen : ℕ → Bool) (reply : Reply) (after : Machine) → Step m (OfSession s st) risen reply after → Leaves m risen reply after
 leaves_step m s st risen reply after step =
     either (is_built st) (Runs m s risen st reply after) (Refuses m reply after) (Leaves m risen reply after) (leaves_runs m s risen st reply after) (leaves_refuses m risen reply after) step
+
+leaves_keeps : (m : Machine) (risen : ℕ → Bool) (reply : Reply) (after : Machine) → Keeps m reply after → Leaves m risen reply after
+leaves_keeps m risen NotYet after step = (goes_same m after step, tt)
+leaves_keeps m risen reply after step = absurd step
+
+leaves_event : (m : Machine) (event : Event) (risen : ℕ → Bool) (reply : Reply) (after : Machine) → Step m event risen reply after → Leaves m risen reply after
+leaves_event m (OfSession s st) risen reply after step = leaves_step m s st risen reply after step
+leaves_event m (Upkeep control) risen reply after step = leaves_keeps m risen reply after step
 
 -- a line that is refused tells of no commit and of no fault
 so_refused : (line : List ℕ) (head : Head) (reply : Reply) (risen : ℕ → Bool) (after : Machine) → IsRefused line head reply → IsSo risen reply after
@@ -164,7 +188,7 @@ so_refused line head reply risen after refusal = tt
 
 pub answer_leaves : (line : List ℕ) (m : Machine) (answer : Answer) → IsAnswer line m answer → GoesOn m answer.after × IsSo answer.risen answer.reply answer.after
 answer_leaves line m answer (inl refusal) = (goes_same m answer.after refusal.1, so_refused line answer.head answer.reply answer.risen answer.after refusal.0)
-answer_leaves line m answer (inr step) = leaves_step m step.0 step.1 answer.risen answer.reply answer.after step.4
+answer_leaves line m answer (inr step) = leaves_event m step.0 answer.risen answer.reply answer.after step.3
 
 -- a fault that a reply tells of raised the count
 pub fault_rises : (risen : ℕ → Bool) (reply : Reply) (after : Machine) (file : ℕ) → IsSo risen reply after → tells_fault file reply ≡ true → risen file ≡ true

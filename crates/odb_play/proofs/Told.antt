@@ -7,9 +7,6 @@ use Rattle.odb_model.specs.declared.reply.Head.{Head}
 use Rattle.odb_model.specs.declared.reply.Reply.{Reply}
 use Rattle.odb_model.specs.declared.reply.Head.TheVariants.{Session}
 use Rattle.odb_system.specs.Held.{Held, StandsFor, Follows}
-use Rattle.odb_play.specs.declared.refusal.LineRefusal.{LineRefusal}
-use Rattle.odb_play.specs.declared.refusal.LineRefusal.TheVariants.{NoMemory, Line as LineUnknown, NoSession, NotYet}
-use Rattle.odb_play.specs.Lines.{head_of, reply_of, head_of_event, IsEventOf, IsRefusalOf}
 use Rattle.odb_device.specs.World.{World, present}
 use Rattle.odb_device.specs.Counts.{Adds}
 use Rattle.odb_device.specs.Console.{Says, BreaksOff}
@@ -31,7 +28,7 @@ use Rattle.odb_model.specs.declared.statement.Statement.{Statement}
 use Rattle.odb_model.specs.declared.statement.Statement.TheVariants.{Start, Commit, Select, Insert}
 use Rattle.odb_model.specs.Meaning.{is_built}
 use Rattle.odb_model.specs.Machine.{Machine, Starts, Commits, Runs as RunsStatement, Refuses, Step}
-use Rattle.odb_model.specs.Script.{IsRequest, IsRefused}
+use Rattle.odb_model.specs.Script.{IsRequest, IsRefused, head_of}
 use Rattle.odb_model.specs.Play.{Answer, IsAnswer, text_of_answer}
 use Rattle.odb_model.specs.Transaction.{Exchange}
 use Rattle.odb_model.proofs.Fronts.{IsFrontOf}
@@ -42,40 +39,18 @@ longer_told : (front line : List ℕ) (m : Machine) (answer : Answer) → FRONT 
 longer_told front line m answer long same (inl refusal) =
     inl (front_refused line FRONT (omega arith) long answer.head answer.reply (subst (λ (x : List ℕ). IsRefused x answer.head answer.reply) same refusal.0), refusal.1)
 longer_told front line m answer long same (inr step) =
-    absurd (front_asks_nothing line FRONT (omega arith) long step.0 step.1 (subst (λ (x : List ℕ). IsRequest x step.0 step.1) same step.3))
+    absurd (front_asks_nothing line FRONT (omega arith) long step.0 (subst (λ (x : List ℕ). IsRequest x step.0) same step.1))
 
 pub fronts_tell : (front line : List ℕ) (m : Machine) (answer : Answer) → IsFrontOf FRONT front line → IsAnswer front m answer → IsAnswer line m answer
 fronts_tell front line m answer (inl same) is = subst (λ (x : List ℕ). IsAnswer x m answer) same is
 fronts_tell front line m answer (inr longer) is = longer_told front line m answer longer.0 longer.1 is
 
--- want of memory is an answer to any statement
-starts_memory : (m : Machine) (s : ℕ) (o : Option (List Exchange)) → Starts m s o Memory m
-starts_memory m s None = refl
-starts_memory m s (Some t) = refl
-
-commits_memory : (m : Machine) (s : ℕ) (risen : ℕ → Bool) (o : Option (List Exchange)) → Commits m s risen o Memory m
-commits_memory m s risen None = refl
-commits_memory m s risen (Some t) = refl
-
-runs_memory : (m : Machine) (s : ℕ) (risen : ℕ → Bool) (st : Statement) → RunsStatement m s risen st Memory m
-runs_memory m s risen Start = starts_memory m s (m.sessions s)
-runs_memory m s risen Commit = commits_memory m s risen (m.sessions s)
-runs_memory m s risen (Select what table f) = refl
-runs_memory m s risen (Insert table tuples) = refl
-
-either : (b : Bool) (P Q : Type 0) → P → Q → MatchBool b P Q
-either true P Q p q = p
-either false P Q p q = q
-
-pub step_memory : (m : Machine) (s : ℕ) (st : Statement) → Step m (OfSession s st) (λ _. false) Memory m
-step_memory m s st = either (is_built st) (RunsStatement m s (λ _. false) st Memory m) (Refuses m Memory m) (runs_memory m s (λ _. false) st) refl
-
 -- the system stepped
-pub replies_event : (line : List ℕ) (m : Machine) (event : Event) (reply : Reply) (held : Held) (old new : World) → IsEventOf line event → Follows (Risen old new) m event reply held
-    → Replies line m (head_of_event event) reply held old new
-replies_event line m (OfSession s st) reply held old new request follows = record {
-  answer = record { head = Session s; reply = reply; risen = follows.risen; after = follows.after };
-  answer_is = inr (s, st, refl, request, follows.step);
+pub replies_event : (line : List ℕ) (m : Machine) (event : Event) (reply : Reply) (held : Held) (old new : World) → IsRequest line event → Follows (Risen old new) m event reply held
+    → Replies line m (head_of event) reply held old new
+replies_event line m event reply held old new request follows = record {
+  answer = record { head = head_of event; reply = reply; risen = follows.risen; after = follows.after };
+  answer_is = inr (event, request, refl, follows.step);
   cause = follows.cause;
   head_is = refl;
   reply_is = refl;
@@ -86,7 +61,8 @@ replies_event line m (OfSession s st) reply held old new request follows = recor
 none_rose : (old new : World) (file : ℕ) → false ≡ true → Risen old new file
 none_rose old new file e = cc
 
-refused : (line : List ℕ) (m : Machine) (head : Head) (reply : Reply) (held : Held) (w : World) → IsRefused line head reply → StandsFor held m → Replies line m head reply held w w
+-- the line was refused
+pub refused : (line : List ℕ) (m : Machine) (head : Head) (reply : Reply) (held : Held) (w : World) → IsRefused line head reply → StandsFor held m → Replies line m head reply held w w
 refused line m head reply held w refusal stands = record {
   answer = record { head = head; reply = reply; risen = λ _. false; after = m };
   answer_is = inl (refusal, refl);
@@ -95,21 +71,6 @@ refused line m head reply held w refusal stands = record {
   reply_is = refl;
   stands = stands;
 }
-
--- the line was refused, or memory ran out before the step
-pub replies_refusal : (line : List ℕ) (m : Machine) (refusal : LineRefusal) (held : Held) (w : World) → IsRefusalOf line refusal → StandsFor held m
-    → Replies line m (head_of refusal) (reply_of refusal) held w w
-replies_refusal line m (NoMemory s) held w request stands = record {
-  answer = record { head = Session s; reply = Memory; risen = λ _. false; after = m };
-  answer_is = inr (s, request.0, refl, request.1, step_memory m s request.0);
-  cause = none_rose w w;
-  head_is = refl;
-  reply_is = refl;
-  stands = stands;
-}
-replies_refusal line m LineUnknown held w refusal stands = refused line m (head_of LineUnknown) (reply_of LineUnknown) held w refusal stands
-replies_refusal line m (NoSession s) held w refusal stands = refused line m (head_of (NoSession s)) (reply_of (NoSession s)) held w refusal stands
-replies_refusal line m (NotYet head) held w refusal stands = refused line m (head_of (NotYet head)) (reply_of (NotYet head)) held w refusal stands
 
 -- and nothing was done
 pub rests : (held : Held) (w : World) → IsDurable held (file_of 0 w) → Runs 0 (HoldsThroughout held held) w w

@@ -1,41 +1,32 @@
--- What a line asks, or why it is refused.
-use Rattle.std.specs.Prelude.{ℕ, List}
+-- How a line that asks for no event is answered.
 use Rattle.odb_model.specs.declared.reply.Head.{Head}
-use Rattle.odb_model.specs.declared.reply.Head.TheVariants.{Session, Unknown}
+use Rattle.odb_model.specs.declared.reply.Head.TheVariants.{Session}
 use Rattle.odb_model.specs.declared.reply.Reply.{Reply}
-use Rattle.odb_model.specs.declared.reply.Reply.TheVariants.{Memory, Line as LineReply, NoSession as NoSessionReply, NotYet as NotYetReply}
-use Rattle.odb_model.specs.declared.statement.Statement.{Statement}
-use Rattle.odb_model.specs.declared.event.Event.{Event}
-use Rattle.odb_model.specs.declared.event.Event.TheVariants.{Session as Asked}
-use Rattle.odb_model.specs.Script.{IsRequest, IsRefused}
+use Rattle.odb_model.specs.declared.reply.Reply.TheVariants as reply
+use Rattle.odb_parse.specs.declared.error.ParseError.{ParseError}
+use Rattle.odb_parse.specs.declared.error.ParseError.TheVariants.{BadCharacter, OpenText, NumberTooWide, Unexpected, End, NoMemory}
 use Rattle.odb_play.specs.declared.refusal.LineRefusal.{LineRefusal}
-use Rattle.odb_play.specs.declared.refusal.LineRefusal.TheVariants.{NoMemory, Line, NoSession, NotYet}
+use Rattle.odb_play.specs.declared.refusal.LineRefusal.TheVariants.{Line, NoSession, Long, Text}
 
--- whom the answer to a refused line names
+-- whom the answer names
 abbrev pub head_of : LineRefusal → Head
-head_of (NoMemory s) = Session s
-head_of Line = Unknown
+head_of (Line head) = head
 head_of (NoSession s) = Session s
-head_of (NotYet head) = head
+head_of (Long s) = Session s
+head_of (Text s error) = Session s
 
--- the answer to a refused line
+-- the answer to a text that is refused so
+abbrev pub text_reply : ParseError → Reply
+text_reply (BadCharacter at) = reply.Character at
+text_reply (OpenText at) = reply.Text at
+text_reply (NumberTooWide at) = reply.Number at
+text_reply (Unexpected at) = reply.Syntax at
+text_reply End = reply.End
+text_reply NoMemory = reply.Memory
+
+-- the answer
 abbrev pub reply_of : LineRefusal → Reply
-reply_of (NoMemory s) = Memory
-reply_of Line = LineReply
-reply_of (NoSession s) = NoSessionReply
-reply_of (NotYet head) = NotYetReply
-
--- whom the answer to an event names
-abbrev pub head_of_event : Event → Head
-head_of_event (Asked s st) = Session s
-
--- the line asks for this event
-abbrev pub IsEventOf : List ℕ → Event → Type 0
-IsEventOf line (Asked s st) = IsRequest line s st
-
--- when each refusal comes: want of memory only where a statement is asked of that session, the others by the line
-abbrev pub IsRefusalOf : List ℕ → LineRefusal → Type 0
-IsRefusalOf line (NoMemory s) = (st : Statement) × IsRequest line s st
-IsRefusalOf line Line = IsRefused line Unknown LineReply
-IsRefusalOf line (NoSession s) = IsRefused line (Session s) NoSessionReply
-IsRefusalOf line (NotYet head) = IsRefused line head NotYetReply
+reply_of (Line head) = reply.Line
+reply_of (NoSession s) = reply.NoSession
+reply_of (Long s) = reply.Long
+reply_of (Text s error) = text_reply error

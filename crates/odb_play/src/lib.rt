@@ -13,7 +13,6 @@ mod opening;
 mod player;
 mod refusal;
 mod script;
-mod statement;
 
 pub use event::event_of;
 pub use front::{LONGEST_LINE, reads_fronts};

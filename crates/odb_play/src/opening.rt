@@ -27,8 +27,8 @@ pub(crate) fn open_system<H: Host>(alloc: Global, host: &mut H) -> Result<System
     ensures opened { IfSome (file_of 0 (H.world host.old)) (λ f. IfErr result (λ status. IsOpeningOf status (opened f.bytes))) }
     ensures cause { (file : ℕ) → result ≡ Err (Status.FileFault file) → (file ≡ 0) × FileCountRose 0 (H.world host.old) (H.world host.new) }
 {
-    let transdb = match Transdb::open(alloc, host) {
-        Ok(transdb) => transdb,
+    let (transdb, entries) = match Transdb::open_with_entries(alloc, host) {
+        Ok(opened) => opened,
         Err(error) => return Err(status_of(error)),
     };
     let first = transdb.first();
@@ -39,10 +39,6 @@ pub(crate) fn open_system<H: Host>(alloc: Global, host: &mut H) -> Result<System
             first,
         });
     }
-    let entries = match transdb.entries(alloc, host, 1) {
-        Ok(entries) => entries,
-        Err(error) => return Err(status_of(error)),
-    };
     match System::start(alloc, transdb, entries) {
         Ok(system) => Ok(system),
         Err(_) => Err(Status::NoMemory),

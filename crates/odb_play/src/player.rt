@@ -5,12 +5,11 @@ ghost use Rattle.odb_device.specs.Console.{TakesNothing, SayCountRose};
 ghost use Rattle.odb_device.specs.Moments.{Runs};
 ghost use Rattle.odb_model.specs.Machine.{Machine};
 ghost use Rattle.odb_model.specs.Play.{Answer};
-ghost use Rattle.odb_model.specs.Script.{without_cr};
+ghost use Rattle.odb_model.specs.Script.{head_of, without_cr};
 ghost use Rattle.odb_transdb.specs.declared.header.Header.{Header};
 ghost use Rattle.odb_system.specs.Held.{StandsFor};
 ghost use Rattle.odb_system.specs.Durable.{IsDurable, HoldsThroughout};
 ghost use Rattle.odb_play.specs.Kept.{HasNoLf, shown_ended, shown_last};
-ghost use Rattle.odb_play.specs.Lines.{head_of_event};
 ghost use Rattle.odb_play.specs.Outside.{TouchesOnly};
 ghost use Rattle.odb_play.specs.Played.{IsAt, Replies, LineEnds, BytesEnd, FinishEnds};
 
@@ -23,8 +22,7 @@ use odb_reply::print_reply;
 use odb_system::System;
 use std::alloc::{AllocError, Global};
 
-/// How many bytes of a line are read: one more than a line can have that asks for a statement, so that a longer line is
-/// told from it.
+/// How many bytes of a line are read: one more than a line can have that asks for anything, so that a longer line is told from it.
 pub(crate) const FRONT: usize = LONGEST_LINE + 1;
 
 /// Why a script can't be played on.
@@ -95,10 +93,11 @@ fn last_line(kept: &[u8]) -> &[u8]
 
 /// Whom the answer to an event names.
 fn head_of(event: &Event) -> Head
-    ensures { result ≡ head_of_event event.now }
+    ensures { result ≡ head_of event.now }
 {
     match event {
         Event::Session { session, .. } => Head::Session(*session),
+        Event::Control(_) => Head::Control,
     }
 }
 

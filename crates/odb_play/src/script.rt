@@ -30,7 +30,7 @@ const MOST_INPUT: u64 = 4_294_967_296;
 /// Opens TRANSDB, file 0, and plays the script that the host's input holds, from the entries found there on. It says the reply to
 /// each line before the next line is answered.
 ///
-/// It refuses what [`Transdb::open`] refuses, and with `NotHeld` entries of which the first isn't number 1: what came before them is
+/// It refuses what [`Transdb::open_with_entries`] refuses, and with `NotHeld` entries of which the first isn't number 1: what came before them is
 /// nowhere, since no databank has a file yet. After a refusal nothing was taken or said. It takes the input in pieces of 64 KiB, and
 /// keeps of a line no more than a line can have that asks for a step.
 ///

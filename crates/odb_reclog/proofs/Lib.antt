@@ -12,6 +12,7 @@ mod Found
 mod Closing
 mod Walking
 mod Gates
-mod Opening
+mod Opens
 mod Recorded
 mod Collecting
+mod Gathering

@@ -1,5 +1,5 @@
 // The bytes of a record before its payload.
-ghost use Rattle.std.specs.Prelude.{◌≡◌, ◌+◌, ◌^◌, ◌≤◌, length, if◌then◌else◌, Some, None, IfSome};
+ghost use Rattle.std.specs.Prelude.{◌≡◌, ◌+◌, ◌^◌, ◌<◌, ◌≤◌, length, if◌then◌else◌, Some, None, IfSome};
 ghost use Rattle.odb_reclog.specs.Reading.{head_at, is_record_head};
 
 /// A gate is open exactly where it is this byte.
@@ -48,6 +48,7 @@ impl Head {
         requires { place ≤ 2 ^ 40 }
         ensures end { result ≡ (if is_record_head end number place self then Some (place + 13 + self.size) else None) }
         ensures forward { IfSome result (λ next. (place + 13 ≤ next) × (next ≤ end)) }
+        ensures size { IfSome result (λ next. next < place + 13 + 2 ^ 32) }
     {
         let next = self.end_from(place);
         if self.gate == OPEN && self.number == number && next <= end {

@@ -8,6 +8,7 @@ mod error;
 mod gate;
 mod head;
 mod log;
+mod opening;
 mod plain;
 mod reading;
 mod record;

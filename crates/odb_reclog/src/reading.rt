@@ -1,17 +1,13 @@
-// Opening a log, and reading its records.
-ghost use Rattle.std.specs.Prelude.{◌≡◌, ◌↔◌, IsTrue, ◌⊎◌, ◌+◌, ◌-◌, ◌^◌, ◌<◌, ◌≤◌, false, length, Some, Err, OnOk, IfOk, IfErr, IfSome, option_map};
+// Reading the records of a log.
+ghost use Rattle.std.specs.Prelude.{◌≡◌, ◌↔◌, IsTrue, ◌⊎◌, ◌+◌, ◌^◌, ◌<◌, ◌≤◌, false, length, Some, Err, OnOk, IfOk, IfErr, IfSome};
 ghost use Rattle.odb_device.specs.World.{file_of};
 ghost use Rattle.odb_device.specs.Images.{part};
-ghost use Rattle.odb_device.specs.Calls.{HasCause, FileCountRose, Keeps};
+ghost use Rattle.odb_device.specs.Calls.{HasCause, FileCountRose};
 ghost use Rattle.odb_device.specs.Moments.{Runs};
-ghost use Rattle.odb_reclog.specs.Moments.{KeepsLists};
 ghost use Rattle.odb_reclog.specs.Reading.{head_at};
-ghost use Rattle.odb_reclog.specs.Ends.{EndsAt, closed_at};
 ghost use Rattle.odb_reclog.specs.Windows.{Shows};
 
-use crate::gate::close_end;
 use crate::head::{HEAD, Head, OPEN};
-use crate::walk::{ListEnd, find_end};
 use crate::window::Window;
 use crate::{LogRecord, RecError, RecLog};
 use odb_device::{Failed, Store};
@@ -19,48 +15,8 @@ use odb_values::{Bytes, Frozen};
 use std::alloc::Global;
 
 impl RecLog {
-    ghost use Rattle.odb_reclog.specs.Standing.{Stands, list_of, list_in};
+    ghost use Rattle.odb_reclog.specs.Standing.{Stands};
     ghost use Rattle.odb_reclog.specs.Records.{log_of, IsPlaceIn, record_in};
-
-    /// Opens the log of a region of a file, from the byte `start` to before the byte `end`, whose first record has the number
-    /// `first`. Its list is that of the file's bytes as they are read, which are on the disk then.
-    ///
-    /// One sync; the list is read in pieces of at most 65,536 bytes, and what of a payload lies beyond a piece is skipped. Where the list ends
-    /// inside the region one byte more is read, and a gate that is open there is closed, by one write and one sync. It takes no memory.
-    pub fn open<S: Store>(
-        store: &mut S,
-        file: u32,
-        start: u64,
-        end: u64,
-        first: u64,
-    ) -> Result<RecLog, RecError>
-        requires region { (start ≤ end) × (end ≤ 2 ^ 40) }
-        requires first { first ≤ 2 ^ 63 }
-        requires long { IfSome (file_of file (S.world store.old)) (λ f. end ≤ length f.bytes) }
-        ensures run { Runs file (KeepsLists start end first start (end - start) (file_of file (S.world store.old))) (S.world store.old) (S.world store.new) }
-        ensures stands { IfOk result (λ log. Stands log (file_of file (S.world store.new))) }
-        ensures list { IfOk result (λ log. list_of log (file_of file (S.world store.new)) ≡ list_in start end first (file_of file (S.world store.old))) }
-        ensures closes { IfOk result (λ log. file_of file (S.world store.new) ≡ option_map (closed_at log.place end) (file_of file (S.world store.old))) }
-        ensures log { IfOk result (λ log. (log.file ≡ file) × (log.start ≡ start) × (log.end ≡ end) × (log.first ≡ first)) }
-        ensures rests { IfOk result (λ log. (log.touched ≡ false) × (log.has_body ≡ false) × (log.in_doubt ≡ false)) }
-        ensures refusal { IfErr result (λ e. e ≡ RecError.Fault) }
-        ensures cause { HasCause file (S.world store.old) (S.world store.new) result }
-    {
-        let found = settle(store, file, start, end, first)?;
-        close_end(store, file, start, end, first, found.place)?;
-        Ok(RecLog {
-            file,
-            start,
-            end,
-            first,
-            place: found.place,
-            next: found.number,
-            clear_from: end.max(found.place + 1),
-            touched: false,
-            has_body: false,
-            in_doubt: false,
-        })
-    }
 
     /// The record at a place, which is that of a record of the list, or its end; None at its end.
     ///
@@ -167,28 +123,6 @@ impl RecLog {
             && head.number < self.next
             && next <= self.place
     }
-}
-
-/// Puts a file on the disk, and finds where the list of a region of it ends.
-fn settle<S: Store>(
-    store: &mut S,
-    file: u32,
-    start: u64,
-    end: u64,
-    first: u64,
-) -> Result<ListEnd, Failed>
-    requires region { (start ≤ end) × (end ≤ 2 ^ 40) }
-    requires first { first ≤ 2 ^ 63 }
-    requires long { IfSome (file_of file (S.world store.old)) (λ f. end ≤ length f.bytes) }
-    ensures run { Runs file (KeepsLists start end first start (end - start) (file_of file (S.world store.old))) (S.world store.old) (S.world store.new) }
-    ensures kept { OnOk result (Keeps file (S.world store.old) (S.world store.new)) }
-    ensures end { IfSome (file_of file (S.world store.old)) (λ f. IfOk result (λ found. EndsAt start end first found f.bytes)) }
-    ensures range { IfOk result (λ found. (start ≤ found.place) × (found.place ≤ end) × (found.number + start ≤ first + found.place)) }
-    ensures cause { HasCause file (S.world store.old) (S.world store.new) result }
-{
-    store.sync(file)?;
-    let found = find_end(store, file, start, end, first)?;
-    Ok(found)
 }
 
 /// The head of a record at a place; None where the store gives fewer than 13 bytes. One read.

@@ -2,7 +2,8 @@
 use Rattle.std.proofs.Common.{◌≡◌, ℕ, ◌+◌, ◌<◌, ◌≤◌, List, [], ◌∷◌, ◌++◌, length, take, get_or, zero, suc, refl, arith, codes, append_assoc}
 use Rattle.std.proofs.lemmas.List.{take_more, length-take-le}
 use Rattle.odb_values.specs.declared.value.Value.{Value}
-use Rattle.odb_model.specs.Print.{value_text, values_text}
+use Rattle.odb_model.specs.Canonical.{value_text}
+use Rattle.odb_model.specs.Print.{values_text}
 
 -- one value more, after others, stands behind a comma
 pub values_text_push : (vs : List Value) (w : Value) → 0 < length vs → values_text (vs ++ w ∷ []) ≡ values_text vs ++ codes "," ++ value_text w

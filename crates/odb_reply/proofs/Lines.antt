@@ -4,7 +4,9 @@ use Rattle.std.specs.List.{All, list_all, list_any}
 use Rattle.std.proofs.lemmas.List.Elements.{All-head, All-tail}
 use Rattle.odb_values.specs.declared.value.Value.{Value}
 use Rattle.odb_values.specs.Text.{is_plain}
-use Rattle.odb_model.specs.Print.{doubled, value_text, values_text}
+use Rattle.odb_lex.specs.Quoted.{doubled}
+use Rattle.odb_model.specs.Canonical.{value_text}
+use Rattle.odb_model.specs.Print.{values_text}
 use Rattle.odb_model.proofs.Told.{no_lf-append}
 use Rattle.odb_reply.specs.Unbroken.{HasNoLf, IsUnbroken, IsUnbrokenRow}
 

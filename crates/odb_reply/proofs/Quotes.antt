@@ -1,7 +1,7 @@
 -- Texts whose quotes are doubled.
 use Rattle.std.proofs.Common.{◌≡◌, ◌≢◌, ℕ, suc, ◌<◌, List, [], ◌∷◌, ◌++◌, length, get_or, refl, arith, append_assoc}
 use Rattle.std.proofs.lemmas.Grind.{flat_map-append}
-use Rattle.odb_model.specs.Print.{doubled}
+use Rattle.odb_lex.specs.Quoted.{doubled}
 
 -- no byte of the text is a quote
 abbrev pub HasNoQuote : List ℕ → Type 0

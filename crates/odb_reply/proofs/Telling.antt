@@ -7,7 +7,7 @@ use Rattle.std.proofs.lemmas.List.Elements.{All-head, All-tail}
 use Rattle.odb_values.specs.declared.value.Value.{Value}
 use Rattle.odb_model.specs.declared.reply.Head.{Head}
 use Rattle.odb_model.specs.declared.reply.Reply.{Reply}
-use Rattle.odb_model.specs.declared.reply.Reply.TheVariants.{Okay, Rows, Done, Committed, Ended, InDoubt, Line, NoSession, NotYet, NoTransaction, InTransaction, Duplicate, TooManyWrites, Halted, Conflict, Full, Fault, Memory}
+use Rattle.odb_model.specs.declared.reply.Reply.TheVariants.{Okay, Rows, Done, Committed, Ended, InDoubt, Character, Text, Number, Syntax, End, Long, Line, NoSession, NotYet, NoTransaction, InTransaction, Duplicate, TooManyWrites, Halted, Conflict, Full, Fault, Memory}
 use Rattle.odb_model.specs.Print.{line_of, values_text, row_line, refused_line, reply_text}
 use Rattle.odb_model.specs.Told.{Tells}
 use Rattle.odb_model.proofs.Decimal.{decimal-one, no_lf-decimal}
@@ -43,6 +43,12 @@ told_reply head Okay k p t = absurd (untold head 79 (codes "K") k refl refl t)
 told_reply head (Done n) k p t = absurd (untold head 68 (codes "ONE " ++ decimal n) k refl (no_lf-decimal n) t)
 told_reply head (Ended n) k p t = absurd (untold head 69 (codes "NDED " ++ decimal n) k refl (no_lf-decimal n) t)
 told_reply head (InDoubt n) k p t = absurd (untold head 73 (codes "NDOUBT " ++ decimal n) k refl (no_lf-decimal n) t)
+told_reply head (Character n) k p t = absurd (untold_refusal head (codes "CHARACTER " ++ decimal n) k (no_lf-decimal n) t)
+told_reply head (Text n) k p t = absurd (untold_refusal head (codes "TEXT " ++ decimal n) k (no_lf-decimal n) t)
+told_reply head (Number n) k p t = absurd (untold_refusal head (codes "NUMBER " ++ decimal n) k (no_lf-decimal n) t)
+told_reply head (Syntax n) k p t = absurd (untold_refusal head (codes "SYNTAX " ++ decimal n) k (no_lf-decimal n) t)
+told_reply head End k p t = absurd (untold_refusal head (codes "END") k refl t)
+told_reply head Long k p t = absurd (untold_refusal head (codes "LONG") k refl t)
 told_reply head Line k p t = absurd (untold_refusal head (codes "LINE") k refl t)
 told_reply head NoSession k p t = absurd (untold_refusal head (codes "NOSESSION") k refl t)
 told_reply head NotYet k p t = absurd (untold_refusal head (codes "NOTYET") k refl t)

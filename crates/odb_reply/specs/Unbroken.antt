@@ -4,7 +4,8 @@ use Rattle.std.specs.List.{All, list_any}
 use Rattle.odb_values.specs.declared.value.Value.{Value}
 use Rattle.odb_model.specs.declared.reply.Reply.{Reply}
 use Rattle.odb_model.specs.declared.reply.Reply.TheVariants.{Rows, Committed}
-use Rattle.odb_model.specs.Print.{value_text, values_text}
+use Rattle.odb_model.specs.Canonical.{value_text}
+use Rattle.odb_model.specs.Print.{values_text}
 
 -- no byte is an LF
 abbrev pub HasNoLf : List ℕ → Type 0

@@ -4,6 +4,8 @@ use odb_values::{Bytes, Frozen, Text, Value};
 use std::alloc::Global;
 use std::test::Fail;
 
+const SYNTAX: &str = "1 REFUSED SYNTAX 18446744073709551615\n";
+
 fn text(alloc: Global, text: &str) -> Result<Value, Fail> {
     Ok(Value::Text(Text::from_str(alloc, text)?.ok_or("no text")?))
 }
@@ -64,7 +66,14 @@ fn refusals_are_printed(rt: HostRuntime) -> Result<(), Fail> {
     let last = Head::Session(999_999_999);
     let cases = [
         (Head::Unknown, Reply::Line, "? REFUSED LINE\n"),
+        (Head::Control, Reply::Line, "! REFUSED LINE\n"),
         (Head::Control, Reply::NotYet, "! REFUSED NOTYET\n"),
+        (one, Reply::Character(38), "1 REFUSED CHARACTER 38\n"),
+        (one, Reply::Text(6), "1 REFUSED TEXT 6\n"),
+        (one, Reply::Number(0), "1 REFUSED NUMBER 0\n"),
+        (one, Reply::Syntax(u64::MAX), SYNTAX),
+        (one, Reply::End, "1 REFUSED END\n"),
+        (one, Reply::Long, "1 REFUSED LONG\n"),
         (last, Reply::NoSession, "999999999 REFUSED NOSESSION\n"),
         (one, Reply::NoTransaction, "1 REFUSED NOTRANSACTION\n"),
         (one, Reply::InTransaction, "1 REFUSED INTRANSACTION\n"),

@@ -1,6 +1,8 @@
 //! The texts of values.
 ghost use Rattle.std.specs.Prelude.{◌≡◌, ◌++◌, codes, string_bytes, OnOk};
-ghost use Rattle.odb_model.specs.Print.{doubled, value_text, values_text};
+ghost use Rattle.odb_lex.specs.Quoted.{doubled};
+ghost use Rattle.odb_model.specs.Canonical.{value_text};
+ghost use Rattle.odb_model.specs.Print.{values_text};
 ghost use Rattle.odb_reply.specs.Unbroken.{IsUnbroken, IsUnbrokenRow};
 
 use odb_values::Value;

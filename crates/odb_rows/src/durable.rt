@@ -73,6 +73,29 @@ fn the_next_play_goes_on(rt: HostRuntime) -> Result<(), Fail> {
     Ok(())
 }
 
+#[test]
+fn entries_are_given_at_the_opening_and_read_again_from_a_number_on(
+    rt: HostRuntime,
+) -> Result<(), Fail> {
+    let alloc = rt.alloc();
+    let (_status, mut host) = played_again(
+        alloc,
+        b"2 START\n2 INSERT INTO KV VALUES (2,20)\n2 COMMIT\n",
+    )?;
+    let (transdb, entries) = Transdb::open_with_entries(alloc, &mut host)?;
+    assert_eq!(rt; entries.len(), 2);
+    if transdb.first() > 2 {
+        return Err(Fail::new("the first entries are gone"));
+    }
+    let later = transdb.entries(alloc, &mut host, 2)?;
+    assert_eq!(rt; later.len(), 1);
+    match later.as_slice().first() {
+        Some(entry) => assert_eq!(rt; entry.number, 2),
+        None => return Err(Fail::new("the second entry is gone")),
+    }
+    Ok(())
+}
+
 /// The number of the last entry that a crash behind so many calls leaves.
 fn last_after(alloc: Global, host: &MemHost, calls: u32, pick: u64) -> Result<u64, Fail> {
     let mut left = crashed(alloc, host, calls, pick)?;

@@ -11,4 +11,6 @@ mod folder;
 #[cfg(test)]
 mod hosts;
 #[cfg(test)]
+mod language;
+#[cfg(test)]
 mod tests;

@@ -5,6 +5,7 @@ use odb_model::Status;
 use odb_tool::run;
 use std::alloc::Global;
 use std::fmt::Write;
+use std::process::Abort;
 use std::test::Fail;
 
 #[test]
@@ -88,85 +89,150 @@ fn sessions_play_at_once(rt: HostRuntime) -> Result<(), Fail> {
     Ok(())
 }
 
-#[test]
-fn hostile_lines_play(rt: HostRuntime) -> Result<(), Fail> {
-    let cases: [(&[u8], &[u8]); 20] = [
-        // Ends of lines.
-        (b"1 START", b"1 OK\n"),
-        (b"1 START\r\n1 COMMIT\r\n", b"1 OK\n1 ENDED 0\n"),
-        (b"1 START\r", b"1 REFUSED NOTYET\n"),
-        (b"1 START\r\r\n", b"1 REFUSED NOTYET\n"),
-        (b"1 START\r1 COMMIT\n", b"1 REFUSED NOTYET\n"),
-        (b"\n", b"? REFUSED LINE\n"),
-        (b"\r\n", b"? REFUSED LINE\n"),
-        (b"\r", b"? REFUSED LINE\n"),
-        (b"\n\n1 START\n", b"? REFUSED LINE\n? REFUSED LINE\n1 OK\n"),
-        (b"1 \n", b"1 REFUSED NOTYET\n"),
-        (b"1\n", b"? REFUSED LINE\n"),
-        // Any bytes.
-        (b"\0\n1 START\0\n", b"? REFUSED LINE\n1 REFUSED NOTYET\n"),
-        (
-            b"\xff\xfe\n7 \xc3\xa9\n",
-            b"? REFUSED LINE\n7 REFUSED NOTYET\n",
-        ),
-        // Numbers of sessions.
-        (
-            b"0 START\n65 START\n01 START\n",
-            b"0 REFUSED NOSESSION\n65 REFUSED NOSESSION\n? REFUSED LINE\n",
-        ),
-        (
-            b"999999999 START\n1000000000 START\n",
-            b"999999999 REFUSED NOSESSION\n? REFUSED LINE\n",
-        ),
-        (b" 1 START\n-1 START\n", b"? REFUSED LINE\n? REFUSED LINE\n"),
-        // Control lines.
-        (
-            b"! TURN\n! \n!\n!TURN\n",
-            b"! REFUSED NOTYET\n! REFUSED NOTYET\n? REFUSED LINE\n? REFUSED LINE\n",
-        ),
-        // Other texts.
-        (
-            b"1 start\n1 START;\n1  START\n",
-            b"1 REFUSED NOTYET\n1 REFUSED NOTYET\n1 REFUSED NOTYET\n",
-        ),
-        // The longest line that asks for something, and one byte more.
-        (
-            b"64 START\n64 INSERT INTO KV VALUES (999999999,999999999)\r\n",
-            b"64 OK\n64 DONE 1\n",
-        ),
-        (
-            b"64 INSERT INTO KV VALUES (999999999,999999999) \r\n64 INSERT INTO KV VALUES (1000000000,1)\n",
-            b"64 REFUSED NOTYET\n64 REFUSED NOTYET\n",
-        ),
-    ];
+/// A script and what is said to it.
+type Played = (&'static [u8], &'static [u8]);
+
+/// Plays each script over a new database.
+fn all_play(rt: &impl Abort, alloc: Global, cases: &[Played]) -> Result<(), Fail> {
     for (script, wanted) in cases {
-        let (status, host) = played(rt.alloc(), script)?;
-        assert_eq!(rt; host.said(), wanted, "at {script:?}");
+        let (status, host) = played(alloc, script)?;
+        assert_eq!(rt; host.said(), *wanted, "at {script:?}");
         assert_eq!(rt; status, Status::Done);
     }
     Ok(())
 }
 
+const ENDS_OF_LINES: [Played; 10] = [
+    (b"1 START", b"1 OK\n"),
+    (b"1 START\r\n1 COMMIT\r\n", b"1 OK\n1 ENDED 0\n"),
+    (b"1 START\r", b"1 REFUSED CHARACTER 5\n"),
+    (b"1 START\r\r\n", b"1 REFUSED CHARACTER 5\n"),
+    (b"1 START\r1 COMMIT\n", b"1 REFUSED CHARACTER 5\n"),
+    (b"\n", b"? REFUSED LINE\n"),
+    (b"\r\n", b"? REFUSED LINE\n"),
+    (b"\r", b"? REFUSED LINE\n"),
+    (b"1 \n", b"1 REFUSED END\n"),
+    (b"1\n", b"? REFUSED LINE\n"),
+];
+
+const NO_SESSIONS: &[u8] = b"0 REFUSED NOSESSION\n65 REFUSED NOSESSION\n? REFUSED LINE\n";
+
+const LARGE: &[u8] = b"999999999 START\n1000000000 START\n";
+
+const HOSTILE: [Played; 5] = [
+    (
+        b"\0\n1 START\0\n",
+        b"? REFUSED LINE\n1 REFUSED CHARACTER 5\n",
+    ),
+    (
+        b"\xff\n7 \xc3\xa9\n",
+        b"? REFUSED LINE\n7 REFUSED CHARACTER 0\n",
+    ),
+    (b"0 START\n65 START\n01 START\n", NO_SESSIONS),
+    (LARGE, b"999999999 REFUSED NOSESSION\n? REFUSED LINE\n"),
+    (b" 1 START\n-1 START\n", b"? REFUSED LINE\n? REFUSED LINE\n"),
+];
+
+#[test]
+fn ends_of_lines_play(rt: HostRuntime) -> Result<(), Fail> {
+    all_play(&rt, rt.alloc(), &ENDS_OF_LINES)
+}
+
+#[test]
+fn hostile_lines_play(rt: HostRuntime) -> Result<(), Fail> {
+    all_play(&rt, rt.alloc(), &HOSTILE)
+}
+
+const CONTROLS: &[u8] =
+    b"! APPLY 4 BODIES\n! APPLY 4 GATES\n! APPLY 4 MARK\n! LOG\n! TURN\n! CLEAN\n\
+    ! COPY 4294967295\n! DROPLOG 999999999999999\n! NEWLOG\n! REOPEN\n! STATE\n";
+
+const WRONG_CONTROLS: &[u8] = b"! \n! turn\n! TURN \n! COPY\n! COPY 04\n! COPY 4294967296\n\
+    ! DROPLOG 1000000000000000\n! APPLY 4\n!\n!TURN\n";
+
+#[test]
+fn control_lines_play(rt: HostRuntime) -> Result<(), Fail> {
+    let alloc = rt.alloc();
+    let (_, host) = played(alloc, CONTROLS)?;
+    let wanted = "! REFUSED NOTYET\n".repeat(alloc, 11)?;
+    assert_eq!(rt; host.said(), wanted.as_bytes());
+    let (_, host) = played(alloc, WRONG_CONTROLS)?;
+    let mut wanted = "! REFUSED LINE\n".repeat(alloc, 8)?;
+    wanted.push_str("? REFUSED LINE\n? REFUSED LINE\n")?;
+    assert_eq!(rt; host.said(), wanted.as_bytes());
+    Ok(())
+}
+
+const WIDE: &[u8] = b"1 INSERT INTO KV VALUES (9223372036854775809,0)\n";
+
+const REFUSED: [Played; 8] = [
+    (b"1 SELEC\n", b"1 REFUSED SYNTAX 0\n"),
+    (b"1 SELECT\n", b"1 REFUSED END\n"),
+    (b"1 SELECT 'a\n", b"1 REFUSED TEXT 7\n"),
+    (WIDE, b"1 REFUSED NUMBER 23\n"),
+    (b"99 START\n", b"99 REFUSED NOSESSION\n"),
+    (b"hello\n", b"? REFUSED LINE\n"),
+    (b"1 COMMIT\n", b"1 REFUSED NOTRANSACTION\n"),
+    (b"1 START\n1 START\n", b"1 OK\n1 REFUSED INTRANSACTION\n"),
+];
+
+const PAIR: &[u8] = b"1 start;\n1 insert\tinto Kv values(007,-1)\n1 SELECT k FROM kv WHERE k>-1;\n";
+
+const SPELLED: [Played; 4] = [
+    (PAIR, b"1 OK\n1 DONE 1\n1 ROW 7\n1 ROWS 1\n"),
+    // A form that isn't built: refused for its text first.
+    (
+        b"1 ROLLBACK\n1 ROLLBACK 1\n",
+        b"1 REFUSED NOTYET\n1 REFUSED SYNTAX 9\n",
+    ),
+    (
+        b"1 DELETE FROM KV\n1 DROP\n",
+        b"1 REFUSED NOTYET\n1 REFUSED END\n",
+    ),
+    (b"1 SELECT * FROM T\n", b"1 REFUSED NOTYET\n"),
+];
+
+#[test]
+fn texts_are_refused_by_name(rt: HostRuntime) -> Result<(), Fail> {
+    all_play(&rt, rt.alloc(), &REFUSED)
+}
+
+#[test]
+fn spellings_play(rt: HostRuntime) -> Result<(), Fail> {
+    all_play(&rt, rt.alloc(), &SPELLED)
+}
+
+/// What is said to a line of this front and so many of these bytes, before one line more.
+fn said_to(alloc: Global, front: &str, rest: &str, count: usize) -> Result<Vec<u8>, Fail> {
+    let rest = rest.repeat(alloc, count)?;
+    let script = format!(in alloc; "{front}{rest}\n2 START\n")?;
+    let (_, host) = played(alloc, script.as_bytes())?;
+    Ok(host.said().to_vec(alloc)?)
+}
+
 #[test]
 fn long_lines_play(rt: HostRuntime) -> Result<(), Fail> {
     let alloc = rt.alloc();
-    let cases = [
-        ("1 ", "x", "1 REFUSED NOTYET\n2 OK\n"),
-        ("", "9", "? REFUSED LINE\n2 OK\n"),
-        ("1 START", "\r", "1 REFUSED NOTYET\n2 OK\n"),
-        (
-            "1 INSERT INTO KV VALUES (1,10)",
-            " ",
-            "1 REFUSED NOTYET\n2 OK\n",
-        ),
+    let cases: [(&str, &str, usize, &[u8]); 7] = [
+        ("1 START", " ", 65_531, b"1 OK\n2 OK\n"),
+        ("1 START", " ", 65_532, b"1 REFUSED LONG\n2 OK\n"),
+        ("64 START", " ", 65_531, b"64 OK\n2 OK\n"),
+        ("64 START", " ", 65_532, b"64 REFUSED LONG\n2 OK\n"),
+        ("1 ", "x", 200_000, b"1 REFUSED LONG\n2 OK\n"),
+        ("", "9", 70_000, b"? REFUSED LINE\n2 OK\n"),
+        ("99 ", "x", 70_000, b"99 REFUSED NOSESSION\n2 OK\n"),
     ];
-    for (front, rest, wanted) in cases {
-        let rest = rest.repeat(alloc, 70_000)?;
-        let script = format!(in alloc; "{front}{rest}\n2 START\n")?;
-        let (status, host) = played(alloc, script.as_bytes())?;
-        assert_eq!(rt; host.said(), wanted.as_bytes(), "after {front}");
-        assert_eq!(rt; status, Status::Done);
+    for (front, rest, count, wanted) in cases {
+        let said = said_to(alloc, front, rest, count)?;
+        assert_eq!(rt; said.as_slice(), wanted, "after {front}");
     }
+    Ok(())
+}
+
+#[test]
+fn long_predicates_play(rt: HostRuntime) -> Result<(), Fail> {
+    let said = said_to(rt.alloc(), "1 DELETE FROM KV WHERE A=1", "OR A=1", 10_900)?;
+    assert_eq!(rt; said.as_slice(), b"1 REFUSED NOTYET\n2 OK\n".as_slice());
     Ok(())
 }
 

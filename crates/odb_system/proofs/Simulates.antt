@@ -7,11 +7,12 @@ use Rattle.std.proofs.lemmas.Bool.Decides.{eqb_tells}
 use Rattle.std.proofs.Math.Seq.{take-length}
 use Rattle.odb_model.specs.declared.write.Write.{Write}
 use Rattle.odb_model.specs.declared.entry.Entry.{Entry}
-use Rattle.odb_model.specs.declared.event.Event.TheVariants.{Session as OfSession}
+use Rattle.odb_model.specs.declared.control.Control.{Control as Upkeep}
+use Rattle.odb_model.specs.declared.event.Event.TheVariants.{Session as OfSession, Control as OfUpkeep}
 use Rattle.odb_model.specs.declared.reply.Reply.{Reply}
 use Rattle.odb_model.specs.declared.reply.Reply.TheVariants.{Okay, Committed, Ended, InDoubt, NotYet, NoTransaction, InTransaction, Halted, Conflict, Full, Fault, Memory}
 use Rattle.odb_model.specs.declared.statement.Statement.{Statement}
-use Rattle.odb_model.specs.declared.statement.Statement.TheVariants.{Start, Commit, Select, Insert}
+use Rattle.odb_model.specs.declared.statement.Statement.TheVariants.{Start, Commit, Select, Insert, Rollback, Update, Delete, CreateDatabank, CreateTable, DropTable, CreateShadow, ShadowOnline, ShadowOffline, ShadowMaster, DropShadow, CreateBackup, BackupReady, DropBackup, Restore}
 use Rattle.odb_model.specs.State.{after_writes, replay, IsHistory}
 use Rattle.odb_model.specs.Meaning.{meaning, is_built}
 use Rattle.odb_model.specs.Reads.{reads}
@@ -300,6 +301,21 @@ module _ (m : Machine) (s : ℕ) (in_range : IsSession s) (xs : List (Option Ope
   runs (Insert table tuples) reply held built step room =
       executes (Insert table tuples) (m.sessions s) reply held built (λ r after x. x)
       (subst (λ (o : Option Open). HeldExecutes (held_of m xs db) (s - 1) (Insert table tuples) o reply held) at_place step)
+  runs Rollback reply held built step room = absurd cc
+  runs (Update table sets f) reply held built step room = absurd cc
+  runs (Delete table f) reply held built step room = absurd cc
+  runs (CreateDatabank name) reply held built step room = absurd cc
+  runs (CreateTable name columns key bank) reply held built step room = absurd cc
+  runs (DropTable name) reply held built step room = absurd cc
+  runs (CreateShadow name bank) reply held built step room = absurd cc
+  runs (ShadowOnline name) reply held built step room = absurd cc
+  runs (ShadowOffline name) reply held built step room = absurd cc
+  runs (ShadowMaster name) reply held built step room = absurd cc
+  runs (DropShadow name) reply held built step room = absurd cc
+  runs (CreateBackup name bank) reply held built step room = absurd cc
+  runs (BackupReady name) reply held built step room = absurd cc
+  runs (DropBackup name) reply held built step room = absurd cc
+  runs (Restore bank name) reply held built step room = absurd cc
 
 unified : (held : Held) (m : Machine) → held.history ≡ m.history → held.in_doubt ≡ m.in_doubt → held ≡ held_of m held.sessions held.transdb
 unified held m history in_doubt = λ i. record { history = history i; sessions = held.sessions; transdb = held.transdb; in_doubt = in_doubt i }
@@ -332,6 +348,17 @@ follows_refused held m s st after old new in_range stands built same =
     follows after m s st NotYet old new tt
     (stays m s in_range held.sessions held.transdb stands.count stands.each stands.side stands.faithful st NotYet after
     (refused_by (is_built st) (Runs m s (rises NotYet) st NotYet m) (Refuses m NotYet m) built refl) (same ∙ unified held m stands.history stands.in_doubt))
+
+-- a step of upkeep
+pub follows_control : (held : Held) (m : Machine) (control : Upkeep) (after : Held) (old new : World) → StandsFor held m → after ≡ held
+    → Follows (Risen old new) m (OfUpkeep control) NotYet after
+follows_control held m control after old new stands same = record {
+  risen = λ file. false;
+  cause = λ file risen. cc;
+  after = m;
+  step = refl;
+  stands = subst (λ (x : Held). StandsFor x m) (sym same) stands;
+}
 
 -- a statement that is no START and no COMMIT never means MEMORY
 pub executed : (held : Held) (at : ℕ) (st : Statement) (t : Open) (reply : Reply) (after : Held) → reply ≡ (meaning_in held st t).reply

@@ -5,7 +5,7 @@ use Rattle.odb_model.specs.declared.write.Write.{Write}
 use Rattle.odb_model.specs.declared.entry.Entry.{Entry}
 use Rattle.odb_model.specs.declared.outcome.Read.{Read}
 use Rattle.odb_model.specs.declared.reply.Reply.{Reply}
-use Rattle.odb_model.specs.declared.reply.Reply.TheVariants.{Okay, Committed, Ended, InDoubt, NoTransaction, InTransaction, Halted, Conflict, Full, Fault, Memory}
+use Rattle.odb_model.specs.declared.reply.Reply.TheVariants.{Okay, Committed, Ended, InDoubt, NoTransaction, InTransaction, Halted, Conflict, Full, Fault, Memory, NotYet}
 use Rattle.odb_model.specs.declared.statement.Statement.{Statement}
 use Rattle.odb_model.specs.declared.statement.Statement.TheVariants.{Start, Commit, Select, Insert}
 use Rattle.odb_model.specs.State.{after_writes, replay}
@@ -14,7 +14,7 @@ use Rattle.odb_model.specs.Reads.{reads}
 use Rattle.odb_model.specs.Transaction.{Exchange, places, own_writes, reads_of, net, first_conflict}
 use Rattle.odb_model.specs.Script.{IsSession}
 use Rattle.odb_model.specs.declared.event.Event.{Event}
-use Rattle.odb_model.specs.declared.event.Event.TheVariants.{Session}
+use Rattle.odb_model.specs.declared.event.Event.TheVariants.{Session, Control}
 use Rattle.odb_model.specs.Machine.{Machine, Side, Step}
 use Rattle.odb_model.specs.State.{IsHistory}
 use Rattle.odb_model.specs.Storable.{AreStorable, IsStorableList}
@@ -172,6 +172,7 @@ HeldRuns held at Start reply after = HeldStarts held at (session_at held at) rep
 HeldRuns held at Commit reply after = HeldCommits held at (session_at held at) reply after
 HeldRuns held at (Select what table filter) reply after = HeldExecutes held at (Select what table filter) (session_at held at) reply after
 HeldRuns held at (Insert table tuples) reply after = HeldExecutes held at (Insert table tuples) (session_at held at) reply after
+HeldRuns held at other reply after = (reply ≡ NotYet) × (after ≡ held)
 
 -- what an open transaction is in a machine's eyes
 abbrev pub open_of : List Entry → List Exchange → Open
@@ -191,9 +192,10 @@ pub record StandsFor (held : Held) (m : Machine) : Type 0 where
   pub each : (s : ℕ) → IsSession s → slice_get held.sessions (s - 1) ≡ Some (option_map (open_of m.history) (m.sessions s))
   pub faithful : IsFaithful m
 
--- the session's number is one of those there are
+-- the session's number, where there is one, is one of those there are
 abbrev pub IsOfSession : Event → Type 0
 IsOfSession (Session s st) = IsSession s
+IsOfSession (Control control) = Unit {0}
 
 -- From the machine m the event got this reply by a step, and the system stands for the machine after it. A file's count rose in the
 -- step only where `rose` tells so

@@ -58,7 +58,8 @@ impl System {
         })
     }
 
-    /// One step of the machine: the reply to a statement of a session. Want of memory is the reply `Memory`.
+    /// One step of the machine: the reply to a statement of a session, or to a step of upkeep, none of which is built. Want of memory is
+    /// the reply `Memory`.
     ///
     /// A COMMIT that leaves writes forces its record: two syncs and three writes of file 0 where the log's tail is clear. At each
     /// moment a crash leaves the history before the step, or the one after it. No other statement makes a call of the host. A
@@ -73,6 +74,7 @@ impl System {
     {
         match event {
             Event::Session { session, statement } => self.ask(alloc, host, *session, statement),
+            Event::Control(_) => Reply::NotYet,
         }
     }
 
@@ -121,6 +123,7 @@ impl System {
             Statement::Select { .. } | Statement::Insert { .. } => {
                 self.execute(alloc, at, statement)
             }
+            _ => Reply::NotYet,
         }
     }
 

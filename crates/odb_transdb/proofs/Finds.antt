@@ -14,37 +14,28 @@ use Rattle.odb_model.specs.declared.side.OtherSide.TheVariants.{Live, Dirty, Cle
 use Rattle.odb_transdb.specs.declared.header.Header.{Header}
 use Rattle.odb_transdb.specs.declared.error.TransdbError.{TransdbError}
 use Rattle.odb_transdb.specs.declared.error.TransdbError.TheVariants.{NoDatabase, Damaged, Full, FaultBefore, InDoubt, Fault, NoMemory}
-use Rattle.odb_transdb.specs.Header.{side_start, first_on, active_first, other_of, first_by}
+use Rattle.odb_transdb.specs.Header.{side_start, first_on, active_first, other_of, first_by, first_held}
 use Rattle.odb_transdb.specs.Opened.{Opened, holding, side_list, side_entries, joined, with_entries, first_other, with_sides, with_header, opened, entries_of, entries_in}
 use Rattle.odb_transdb.specs.Standing.{Db, IsOfSide, IsLiveBy, Stands}
-use Rattle.odb_transdb.specs.Answers.{IsOpenAnswer}
-use Rattle.odb_transdb.specs.Walking.{sides_read, IsReadOf}
-use Rattle.odb_transdb.specs.Opening.{IsUnless, IsChecked, EndsRight}
+use Rattle.odb_transdb.specs.Answers.{IsAnswerBy, IsOpenAnswer}
+use Rattle.odb_transdb.specs.Walking.{live_read, sides_read, IsReadOf}
+use Rattle.odb_transdb.specs.Opening.{IsUnless, IsChecked}
 use Rattle.odb_transdb.proofs.Opened.{IsSound, Has, read_by, by_sides, opens_read, holds_has}
 use Rattle.odb_transdb.proofs.Entries.{count_read}
 use Rattle.odb_transdb.proofs.Standing.{log_list, stands_made}
 use Rattle.odb_transdb.proofs.Joining.{sides_by, live_count}
 use Rattle.odb_transdb.proofs.Begun.{IsBased, AreBased, IsOfPair, pair_opens}
+use Rattle.odb_transdb.proofs.Shown.{answer_err, read_answer}
 
 -- damage as it was shown
-pub unless_answer : {T : Type 0} (P : T → Type 0) (what shown : Opened) (e : TransdbError) → what ≡ shown → IsUnless shown P (Err e) → IsOpenAnswer (Err e) what
-unless_answer P what shown NoDatabase same told = absurd told
-unless_answer P what shown (Damaged at) same told = same ∙ told
-unless_answer P what shown (Full need room) same told = absurd told
-unless_answer P what shown FaultBefore same told = absurd told
-unless_answer P what shown (InDoubt number) same told = absurd told
-unless_answer P what shown Fault same told = tt
-unless_answer P what shown NoMemory same told = absurd told
-
--- or by a record that is no entry
-pub read_answer : {T : Type 0} (P : List Entry → T → Type 0) (h : Header) (what : Opened) (read : Result (List Entry) ℕ) (e : TransdbError) → what ≡ with_entries h read → IsReadOf P read (Err e) → IsOpenAnswer (Err e) what
-read_answer P h what read NoDatabase same told = absurd told
-read_answer P h what read (Damaged at) same told = same ∙ ap (with_entries h) told
-read_answer P h what read (Full need room) same told = absurd told
-read_answer P h what read FaultBefore same told = absurd told
-read_answer P h what read (InDoubt number) same told = absurd told
-read_answer P h what read Fault same told = tt
-read_answer P h what read NoMemory same told = tt
+pub unless_answer : {T U : Type 0} (P : T → Type 0) (Q : U → Opened → Type 0) (what shown : Opened) (e : TransdbError) → what ≡ shown → IsUnless shown P (Err e) → IsAnswerBy Q (Err e) what
+unless_answer P Q what shown NoDatabase same told = absurd told
+unless_answer P Q what shown (Damaged at) same told = same ∙ told
+unless_answer P Q what shown (Full need room) same told = absurd told
+unless_answer P Q what shown FaultBefore same told = absurd told
+unless_answer P Q what shown (InDoubt number) same told = absurd told
+unless_answer P Q what shown Fault same told = tt
+unless_answer P Q what shown NoMemory same told = absurd told
 
 record Parts (a b : Result (List Entry) ℕ) (all : List Entry) : Type 0 where
   front : List Entry
@@ -107,24 +98,8 @@ module _ (pair : Kept) (h : Header) (live : Option Log) (active : Log) (o now : 
       let sound = sound_now h active g are.side are.stands are.reads h.other live are.by are.lives one.clean in
       sym one.opens ∙ opens_read h g.bytes (record { has = one.has; sound = sound }) ∙ ap (with_entries h) (sym (sides_by h h.other g.bytes))
 
-  pub refused_sides : {T : Type 0} (P : List Entry → T → Type 0) (e : TransdbError) → IfSome now (λ g. IsReadOf P (sides_read h g.bytes) (Err e)) → IfSome o (λ f. IsOpenAnswer (Err e) (opened f.bytes))
-  refused_sides {T} P e told = of_files o now are told
-    where
-      of_files : (o now : Option File) → AreOpen pair h live active o now → IfSome now (λ g. IsReadOf P (sides_read h g.bytes) (Err e)) → IfSome o (λ f. IsOpenAnswer (Err e) (opened f.bytes))
-      of_files None now are told = tt
-      of_files (Some f) None are told = absurd (false≢true are.told)
-      of_files (Some f) (Some g) are told = read_answer P h (opened f.bytes) (sides_read h g.bytes) e (shows f g are) told
-
   abbrev pub ReadNow : Option File → Type 0
   ReadNow now = IfSome now (λ g. (all : List Entry) × (sides_read h g.bytes ≡ Ok all))
-
-  pub found_sides : ReadNow now → IfSome o (λ f. (entries : List Entry) × (opened f.bytes ≡ holding h entries))
-  found_sides read = of_files o now are read
-    where
-      of_files : (o now : Option File) → AreOpen pair h live active o now → ReadNow now → IfSome o (λ f. (entries : List Entry) × (opened f.bytes ≡ holding h entries))
-      of_files None now are read = tt
-      of_files (Some f) None are read = absurd (false≢true are.told)
-      of_files (Some f) (Some g) are read = (read.0, shows f g are ∙ ap (with_entries h) read.1)
 
   abbrev pub made : Db
   made = record { header = h; pair = pair; active = active; live = live }
@@ -151,21 +126,73 @@ module _ (pair : Kept) (h : Header) (live : Option Log) (active : Log) (o now : 
       of_files (Some f) None are = absurd (false≢true are.told)
       of_files (Some f) (Some g) are = ap entries_of (are.based g.bytes are.reads).opens
 
--- what the sides' lengths and zeros show, and what a Live side's end shows
-pub refused_check : (pair : Kept) (h : Header) (o : Option File) (e : TransdbError) → IsOfPair pair h → IfSome o (λ f. pair_opened f.bytes ≡ holding_value pair.value)
-    → IfSome o (λ f. IsUnless {T = Unit {0}} (with_header (Some h) f.bytes) (λ _. IsChecked h f.bytes) (Err e)) → IfSome o (λ f. IsOpenAnswer (Err e) (opened f.bytes))
-refused_check pair h None e of found told = tt
-refused_check pair h (Some f) e of found told = unless_answer {T = Unit {0}} (λ _. IsChecked h f.bytes) (opened f.bytes) (with_header (Some h) f.bytes) e (pair_opens pair h f.bytes of found) told
+-- what the sides' lengths and zeros show, and what a Live side's end and its records show
+pub refused_check : {U : Type 0} (Q : U → Opened → Type 0) (pair : Kept) (h : Header) (o : Option File) (e : TransdbError) → IsOfPair pair h → IfSome o (λ f. pair_opened f.bytes ≡ holding_value pair.value)
+    → IfSome o (λ f. IsUnless {T = Unit {0}} (with_header (Some h) f.bytes) (λ _. IsChecked h f.bytes) (Err e)) → IfSome o (λ f. IsAnswerBy Q (Err e) (opened f.bytes))
+refused_check Q pair h None e of found told = tt
+refused_check Q pair h (Some f) e of found told = unless_answer {T = Unit {0}} (λ _. IsChecked h f.bytes) Q (opened f.bytes) (with_header (Some h) f.bytes) e (pair_opens pair h f.bytes of found) told
 
-pub refused_live : (T : Type 0) (pair : Kept) (h : Header) (o mid : Option File) (e : TransdbError) → mid ≡ o → ReadsImage o → AreBased pair h o o → IfSome mid (λ f. IsUnless {T = T} (with_sides h h.other f.bytes) (λ _. EndsRight h f.bytes) (Err e))
-    → IfSome o (λ f. IsOpenAnswer (Err e) (opened f.bytes))
-refused_live T pair h o mid e same reads based told = of_file o reads based (subst (λ (x : Option File). IfSome x (λ f. IsUnless {T = T} (with_sides h h.other f.bytes) (λ _. EndsRight h f.bytes) (Err e))) same told)
+pub refused_live : {T U : Type 0} (P : File → T → Opened → Type 0) (Q : U → Opened → Type 0) (pair : Kept) (h : Header) (o mid : Option File) (e : TransdbError) → mid ≡ o → ReadsImage o → AreBased pair h o o
+    → IfSome mid (λ f. IsAnswerBy (P f) (Err e) (with_sides h h.other f.bytes)) → IfSome o (λ f. IsAnswerBy Q (Err e) (opened f.bytes))
+refused_live {T} {U} P Q pair h o mid e same reads based told = of_file o reads based (subst (λ (x : Option File). IfSome x (λ f. IsAnswerBy (P f) (Err e) (with_sides h h.other f.bytes))) same told)
   where
-    of_file : (o : Option File) → ReadsImage o → AreBased pair h o o → IfSome o (λ f. IsUnless {T = T} (with_sides h h.other f.bytes) (λ _. EndsRight h f.bytes) (Err e)) → IfSome o (λ f. IsOpenAnswer (Err e) (opened f.bytes))
+    of_file : (o : Option File) → ReadsImage o → AreBased pair h o o → IfSome o (λ f. IsAnswerBy (P f) (Err e) (with_sides h h.other f.bytes)) → IfSome o (λ f. IsAnswerBy Q (Err e) (opened f.bytes))
     of_file None reads based told = tt
-    of_file (Some f) reads based told =
-        unless_answer {T = T} (λ _. EndsRight h f.bytes) (opened f.bytes) (with_sides h h.other f.bytes) e (by_sides h f.bytes (based f.bytes reads).has) told
+    of_file (Some f) reads based told = answer_err (P f) Q (opened f.bytes) (with_sides h h.other f.bytes) e (by_sides h f.bytes (based f.bytes reads).has) told
 
-pub read_now : (h : Header) (o : Option File) (Q : List Entry → Type 0) → IfSome o (λ f. (all : List Entry) × (sides_read h f.bytes ≡ Ok all) × Q all) → IfSome o (λ f. (all : List Entry) × (sides_read h f.bytes ≡ Ok all))
-read_now h None Q read = tt
-read_now h (Some f) Q read = (read.0, read.1)
+-- The entries of the other side were read, of the file as it is now
+pub record HasFront (pair : Kept) (h : Header) (front : List Entry) (o now : Option File) : Type 0 where
+  pub based : AreBased pair h o now
+  pub told : is_some now ≡ is_some o
+  pub reads : ReadsImage now
+  pub read : IfSome now (λ g. live_read h h.other g.bytes ≡ Ok front)
+  pub count : first_held h + length front ≡ active_first h
+
+sound_read : (h : Header) (o : OtherSide) (bytes : List ℕ) (front : List Entry) → live_read h o bytes ≡ Ok front → first_by h o + length front ≡ active_first h → (o ≡ Clean → first_other h (other_of h) bytes ≡ None) → IsSound h o bytes
+sound_read h Live bytes front read count clean = omega (arith, count, count_read (first_on h (other_of h)) (side_start h (other_of h)) (side_list h (other_of h) bytes) front read)
+sound_read h Dirty bytes front read count clean = tt
+sound_read h Clean bytes front read count clean = clean refl
+
+module _ (pair : Kept) (h : Header) (front : List Entry) where
+  -- then the active side decides
+  shows_rest : (f g : File) → HasFront pair h front (Some f) (Some g) → opened f.bytes ≡ with_entries h (joined (Ok front) (side_entries h h.active g.bytes))
+  shows_rest f g has =
+      let one = has.based g.bytes has.reads in
+      let sound = sound_read h h.other g.bytes front has.read has.count one.clean in
+      sym one.opens ∙ opens_read h g.bytes (record { has = one.has; sound = sound }) ∙ ap (with_entries h) (sym (sides_by h h.other g.bytes))
+      ∙ ap (λ (r : Result (List Entry) ℕ). with_entries h (joined r (side_entries h h.active g.bytes))) has.read
+
+  pub refused_rest : {T U : Type 0} (P : List Entry → T → Type 0) (Q : U → Opened → Type 0) (o now : Option File) (e : TransdbError) → HasFront pair h front o now → IfSome now (λ g. IsReadOf P (side_entries h h.active g.bytes) (Err e))
+      → IfSome o (λ f. IsAnswerBy Q (Err e) (opened f.bytes))
+  refused_rest P Q None now e has told = tt
+  refused_rest P Q (Some f) None e has told = absurd (false≢true has.told)
+  refused_rest P Q (Some f) (Some g) e has told =
+      read_answer P Q (opened f.bytes) (side_entries h h.active g.bytes) e
+      (λ at is. shows_rest f g has ∙ ap (λ (r : Result (List Entry) ℕ). with_entries h (joined (Ok front) r)) is) told
+
+  module _ (all : List Entry) where
+    -- or both hold these entries
+    abbrev pub Rest : Option File → Type 0
+    Rest now = IfSome now (λ g. (rest : List Entry) × (side_entries h h.active g.bytes ≡ Ok rest) × (all ≡ front ++ rest))
+
+    pub found_all : (o now : Option File) → HasFront pair h front o now → Rest now → IfSome o (λ f. opened f.bytes ≡ holding h all)
+    found_all None now has read = tt
+    found_all (Some f) None has read = absurd (false≢true has.told)
+    found_all (Some f) (Some g) has read =
+        shows_rest f g has ∙ ap (λ (r : Result (List Entry) ℕ). with_entries h (joined (Ok front) r)) read.1 ∙ ap (holding h) (sym read.2)
+
+    pub read_all : (o now : Option File) → HasFront pair h front o now → Rest now → IfSome now (λ g. (entries : List Entry) × (sides_read h g.bytes ≡ Ok entries))
+    read_all o None has read = tt
+    read_all o (Some g) has read = (
+      front ++ read.0,
+      ap (λ (r : Result (List Entry) ℕ). joined r (side_entries h h.active g.bytes)) has.read ∙ ap (joined (Ok front)) read.1,
+    )
+
+-- `open` answers less of what was found
+pub open_answer : (o : Option File) (db : Db) (entries : List Entry) → IfSome o (λ f. opened f.bytes ≡ holding db.header entries) → IfSome o (λ f. IsOpenAnswer (Ok db) (opened f.bytes))
+open_answer None db entries found = tt
+open_answer (Some f) db entries found = (entries, found)
+
+pub open_refusal : {T U : Type 0} (P : T → Opened → Type 0) (Q : U → Opened → Type 0) (o : Option File) (e : TransdbError) → IfSome o (λ f. IsAnswerBy P (Err e) (opened f.bytes)) → IfSome o (λ f. IsAnswerBy Q (Err e) (opened f.bytes))
+open_refusal P Q None e told = tt
+open_refusal P Q (Some f) e told = answer_err P Q (opened f.bytes) (opened f.bytes) e refl told

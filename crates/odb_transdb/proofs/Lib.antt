@@ -8,6 +8,8 @@ pub mod Forced
 pub mod Creating
 pub mod Walking
 pub mod Joining
+pub mod Adding
+pub mod Shown
 pub mod Bare
 pub mod Opens
 pub mod Begun

@@ -13,8 +13,8 @@ use Rattle.odb_transdb.specs.declared.header.Header.{Header}
 use Rattle.odb_transdb.specs.declared.error.TransdbError.{TransdbError}
 use Rattle.odb_transdb.specs.declared.error.TransdbError.TheVariants.{NoDatabase, Damaged, Full, FaultBefore, InDoubt, Fault, NoMemory}
 use Rattle.odb_transdb.specs.Header.{header_of}
-use Rattle.odb_transdb.specs.Opened.{damaged, with_header, with_pair, opened}
-use Rattle.odb_transdb.specs.Answers.{IsOpenAnswer, KeepsOpened, ClosesGates}
+use Rattle.odb_transdb.specs.Opened.{Opened, damaged, with_header, with_pair, opened}
+use Rattle.odb_transdb.specs.Answers.{IsAnswerBy, KeepsOpened, ClosesGates}
 use Rattle.odb_transdb.specs.Opening.{IsPairFound}
 use Rattle.odb_transdb.proofs.Opens.{gates_then}
 
@@ -61,11 +61,11 @@ unfolding opened
 by_pair bytes p is = ap (λ (p : PairOpened). with_pair p bytes) is
 
 -- no pair in order
-pub pair_refused : (o : Option File) (e : TransdbError) → IfSome o (λ f. IsPairFound (Err e) (pair_opened f.bytes)) → IfSome o (λ f. IsOpenAnswer (Err e) (opened f.bytes))
-pair_refused None e found = tt
-pair_refused (Some f) e found = of_error e found
+pub pair_refused : {T : Type 0} (P : T → Opened → Type 0) (o : Option File) (e : TransdbError) → IfSome o (λ f. IsPairFound (Err e) (pair_opened f.bytes)) → IfSome o (λ f. IsAnswerBy P (Err e) (opened f.bytes))
+pair_refused P None e found = tt
+pair_refused P (Some f) e found = of_error e found
   where
-    of_error : (e : TransdbError) → IsPairFound (Err e) (pair_opened f.bytes) → IsOpenAnswer (Err e) (opened f.bytes)
+    of_error : (e : TransdbError) → IsPairFound (Err e) (pair_opened f.bytes) → IsAnswerBy P (Err e) (opened f.bytes)
     of_error NoDatabase found = by_pair f.bytes no_open_place found
     of_error (Damaged at) found = by_pair f.bytes malformed found.1 ∙ ap damaged (sym found.0)
     of_error (Full need room) found = absurd found

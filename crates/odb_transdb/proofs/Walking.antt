@@ -26,11 +26,11 @@ use Rattle.odb_transdb.specs.Walking.{IsReadOf, IsRecordOf, IsEntryOf, IsPart, A
 use Rattle.odb_transdb.proofs.Entries.{read_more, read_fault, count_read}
 
 -- the places of a list
-end_later : (place : ℕ) (records : List (List ℕ)) → place ≤ end_of_list place records
+pub end_later : (place : ℕ) (records : List (List ℕ)) → place ≤ end_of_list place records
 end_later place [] = omega arith
 end_later place (payload ∷ rest) = omega (arith, end_later (place + HEAD + length payload) rest)
 
-end_then : (place : ℕ) (done rest : List (List ℕ)) → end_of_list place (done ++ rest) ≡ end_of_list (end_of_list place done) rest
+pub end_then : (place : ℕ) (done rest : List (List ℕ)) → end_of_list place (done ++ rest) ≡ end_of_list (end_of_list place done) rest
 end_then place [] rest = refl
 end_then place (payload ∷ done) rest = end_then (place + HEAD + length payload) done rest
 

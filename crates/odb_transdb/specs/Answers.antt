@@ -12,16 +12,24 @@ use Rattle.odb_transdb.specs.declared.error.TransdbError.TheVariants.{NoDatabase
 use Rattle.odb_transdb.specs.Opened.{Opened, no_database, damaged, holding, Holds, opened}
 use Rattle.odb_transdb.specs.Standing.{Db, room_of}
 
--- `open` finds what the bytes stand for; a fault and want of memory may come of any bytes
+-- P of what was opened and what the bytes stand for, or the refusal that they ask for; a fault and want of memory may come of any bytes
+abbrev pub IsAnswerBy : {T : Type 0} → (T → Opened → Type 0) → Result T TransdbError → Opened → Type 0
+IsAnswerBy P (Ok x) what = P x what
+IsAnswerBy P (Err NoDatabase) what = what ≡ no_database
+IsAnswerBy P (Err (Damaged at)) what = what ≡ damaged at
+IsAnswerBy P (Err Fault) what = Unit {0}
+IsAnswerBy P (Err NoMemory) what = Unit {0}
+IsAnswerBy P (Err (Full need room)) what = ⊥
+IsAnswerBy P (Err FaultBefore) what = ⊥
+IsAnswerBy P (Err (InDoubt number)) what = ⊥
+
+-- `open` finds what the bytes stand for
 abbrev pub IsOpenAnswer : Result Db TransdbError → Opened → Type 0
-IsOpenAnswer (Ok db) what = (entries : List Entry) × (what ≡ holding db.header entries)
-IsOpenAnswer (Err NoDatabase) what = what ≡ no_database
-IsOpenAnswer (Err (Damaged at)) what = what ≡ damaged at
-IsOpenAnswer (Err Fault) what = Unit {0}
-IsOpenAnswer (Err NoMemory) what = Unit {0}
-IsOpenAnswer (Err (Full need room)) what = ⊥
-IsOpenAnswer (Err FaultBefore) what = ⊥
-IsOpenAnswer (Err (InDoubt number)) what = ⊥
+IsOpenAnswer = IsAnswerBy (λ db what. (entries : List Entry) × (what ≡ holding db.header entries))
+
+-- and so does `open_with_entries`, which gives all of the entries too
+abbrev pub IsFullAnswer : Result (Db × List Entry) TransdbError → Opened → Type 0
+IsFullAnswer = IsAnswerBy (λ found what. what ≡ holding found.0.header found.1)
 
 -- the refusals of `open`, of whatever store
 abbrev pub IsOpenRefusal : {T : Type 0} → Result T TransdbError → Type 0

@@ -62,3 +62,8 @@ IsFirstOther bytes (Some n) = (n < length bytes) × (slice_index bytes n ≢ 0) 
 pub record GoesOn (h : Header) (side : ℕ) (bytes : List ℕ) (log : Log) : Type 0 where
   pub place : end_of_list (side_start h side) (side_list h side bytes) ≡ log.place
   pub number : first_on h side + length (side_list h side bytes) ≡ log.next
+
+-- the payloads that were read of a side end where its log goes on, of whatever file
+pub record IsCounted (h : Header) (side : ℕ) (log : Log) (payloads : List (List ℕ)) : Type 0 where
+  pub number : first_on h side + length payloads ≡ log.next
+  pub place : end_of_list (side_start h side) payloads ≡ log.place

@@ -9,12 +9,10 @@ ghost use Rattle.odb_reclog.specs.Standing.{HasItsBody};
 ghost use Rattle.odb_codec.specs.Reading.{read_entry};
 ghost use Rattle.odb_model.specs.declared.entry.Entry.{Entry};
 
+use crate::transdb::HEAD_SIZE;
 use crate::{Transdb, TransdbError};
 use odb_device::Store;
 use odb_reclog::RecError;
-
-/// The bytes of a record before its payload.
-const HEAD_SIZE: u64 = 13;
 
 impl Transdb {
     ghost use Rattle.odb_transdb.specs.Opened.{entries_in};

@@ -1,25 +1,26 @@
 // Reading the entries that TRANSDB holds.
-ghost use Rattle.std.specs.Prelude.{◌≡◌, ◌≢◌, ℕ, ◌+◌, ◌-◌, ◌<◌, ◌≤◌, max, true, false, [], ◌∷◌, ◌++◌, drop, length, Err, Some, IsTrue, OnOk, IfOk, IfSome};
+ghost use Rattle.std.specs.Prelude.{◌≡◌, ◌≢◌, ℕ, ◌+◌, ◌-◌, ◌^◌, ◌<◌, ◌≤◌, max, true, false, [], ◌∷◌, ◌++◌, drop, length, Err, Some, IsTrue, OnOk, IfOk, IfSome};
 ghost use Rattle.odb_device.specs.World.{file_of};
 ghost use Rattle.odb_device.specs.Calls.{FileCountRose};
 ghost use Rattle.odb_device.specs.Moments.{Runs};
-ghost use Rattle.odb_reclog.specs.Records.{log_of, IsPlaceIn, record_in};
+ghost use Rattle.odb_reclog.specs.Records.{log_of, end_of_list, IsPlaceIn, record_in};
 ghost use Rattle.odb_reclog.specs.Standing.{Stands as LogStands};
 ghost use Rattle.odb_reclog.specs.Windows.{Shows};
 ghost use Rattle.odb_model.specs.State.{IsNumberedFrom};
 ghost use Rattle.odb_model.specs.Width.{records_width};
-ghost use Rattle.odb_transdb.specs.Header.{is_header, first_held, active_first};
+ghost use Rattle.odb_transdb.specs.Header.{is_header, side_start, first_on, first_held, active_first};
 ghost use Rattle.odb_transdb.specs.Standing.{IsOfSide, IsLiveBy};
 ghost use Rattle.odb_transdb.specs.Opened.{entries_from};
 ghost use Rattle.odb_transdb.specs.Answers.{IsReadRefusal};
 ghost use Rattle.odb_transdb.specs.Walking.{live_read, sides_read, IsReadOf, IsRecordOf, IsEntryOf, AddsPart};
 
+use crate::transdb::HEAD_SIZE;
 use crate::{Header, Transdb, TransdbError};
 use odb_codec::{CodecError, decode_entry};
 use odb_device::Store;
 use odb_model::{Entries, Entry};
 use odb_reclog::{LogRecord, RecError, RecLog, Window};
-use odb_values::{Frozen, List};
+use odb_values::{Bytes, Frozen, List};
 use std::alloc::{AllocError, Global};
 
 impl Transdb {
@@ -150,13 +151,45 @@ fn add_entries<S: Store>(
     let mut number = first;
     while at < end {
         let record = record_at(alloc, store, log, &mut window, at, number)?;
-        let entry = entry_of(alloc, &record, at)?;
+        let entry = entry_of(alloc, record.number, &record.payload, at)?;
         add_entry(entries, entry, number >= from)?;
         at = record.next;
         number += 1;
     }
     if number != next {
         return Err(TransdbError::Damaged { at });
+    }
+    Ok(())
+}
+
+/// Adds the entries that the payloads of a side's records are the images of, in order.
+///
+/// Refuses a payload that is no entry, at its record's place. It makes no call of a store, and takes memory for the entries; a
+/// payload's own is given back when its entry is made.
+pub(crate) fn add_payloads(
+    alloc: Global,
+    header: &Header,
+    side: u8,
+    payloads: Frozen<Bytes>,
+    entries: &mut List<Entry>,
+) -> Result<(), TransdbError>
+    requires side { side ≤ 1 }
+    requires numbers { first_on header.now side + length payloads < 2 ^ 64 }
+    requires places { end_of_list (side_start header.now side) payloads < 2 ^ 64 }
+    ensures told { IsReadOf (λ all _. entries.new.items ≡ entries.old.items ++ all) (entries_from (first_on header.now side) (side_start header.now side) payloads) result }
+    ensures part { OnOk result (AddsPart (first_on header.now side) (first_on header.now side) (first_on header.now side + length payloads)
+        (end_of_list (side_start header.now side) payloads - side_start header.now side) entries.old.items entries.new.items) }
+    ensures refusal { IsReadRefusal result }
+    ensures cause { result ≢ Err TransdbError.Fault }
+{
+    let mut at = header.side_start(side);
+    let mut number = header.first_on(side);
+    for payload in payloads.into_vec() {
+        let entry = entry_of(alloc, number, &payload, at)?;
+        entries.reserve()?;
+        entries.push(entry);
+        at += HEAD_SIZE + payload.len() as u64;
+        number += 1;
     }
     Ok(())
 }
@@ -202,11 +235,11 @@ fn record_at<S: Store>(
     }
 }
 
-/// The entry that the payload of the record at a place is the image of.
-fn entry_of(alloc: Global, found: &LogRecord, at: u64) -> Result<Entry, TransdbError>
-    ensures { IsEntryOf found.now.number found.now.payload at result }
+/// The entry of this number that the payload of the record at a place is the image of.
+fn entry_of(alloc: Global, number: u64, payload: &Bytes, at: u64) -> Result<Entry, TransdbError>
+    ensures { IsEntryOf number payload.now at result }
 {
-    match decode_entry(alloc, found.number, found.payload.as_slice()) {
+    match decode_entry(alloc, number, payload.as_slice()) {
         Ok(entry) => Ok(entry),
         Err(CodecError::NoMemory) => Err(TransdbError::NoMemory),
         Err(CodecError::Malformed { .. }) => Err(TransdbError::Damaged { at }),

@@ -9,6 +9,9 @@ use std::marker::Model;
 /// The file of TRANSDB.
 pub(crate) const FILE: u32 = 0;
 
+/// The bytes of a record before its payload.
+pub(crate) const HEAD_SIZE: u64 = 13;
+
 /// The log of commits: file 0 of a database, as it was opened.
 ///
 /// A commit is one record of the active side. It is written behind a closed gate and counts from the moment at which that gate

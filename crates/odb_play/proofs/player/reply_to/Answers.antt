@@ -2,8 +2,8 @@ use Rattle.std.proofs.Common.{sym, subst}
 use Rattle.odb_model.specs.declared.reply.Head.{Head}
 use Rattle.odb_model.specs.declared.reply.Reply.{Reply}
 use Rattle.odb_play.specs.Played.{Replies}
-use Rattle.odb_play.specs.Lines.{head_of}
-use Rattle.odb_play.proofs.Told.{replies_event, replies_refusal, rests}
+use Rattle.odb_play.specs.Lines.{head_of, reply_of}
+use Rattle.odb_play.proofs.Told.{replies_event, refused, rests}
 use Rattle.odb_play.proofs.player.reply_to.Goals as goal
 
 pub returns-in-Ok-clause-answer : goal.returns-in-Ok-clause-answer
@@ -18,7 +18,7 @@ returns-in-Err-clause-answer g c = λ m stands.
     let w = g.H.Outside.world c.args.host.now in
     subst (λ (head : Head). Replies c.args.line.now m head c.reply.result c.args.system.now w w) (sym c.head.ensures)
     (subst (λ (reply : Reply). Replies c.args.line.now m (head_of c.in-Err.refusal) reply c.args.system.now w w) (sym c.reply.ensures)
-    (replies_refusal c.args.line.now m c.in-Err.refusal c.args.system.now w c.in-Err.ensures.refused stands))
+    (refused c.args.line.now m (head_of c.in-Err.refusal) (reply_of c.in-Err.refusal) c.args.system.now w c.in-Err.ensures.refused stands))
 
 pub returns-in-Err-clause-run : goal.returns-in-Err-clause-run
 returns-in-Err-clause-run g c = rests c.args.system.now (g.H.Outside.world c.args.host.now) c.requires.durable

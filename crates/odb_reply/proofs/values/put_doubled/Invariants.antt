@@ -1,7 +1,7 @@
 use Rattle.std.proofs.Common.{◌≡◌, ◌++◌, length, string_bytes}
 use denote.Shadow.{shadow}
 use denote.Text.{Utf8}
-use Rattle.odb_model.specs.Print.{doubled}
+use Rattle.odb_lex.specs.Quoted.{doubled}
 use Rattle.odb_reply.proofs.values.put_doubled.Given as goal
 
 -- what is left is a text, and doubled behind what is written it gives the whole

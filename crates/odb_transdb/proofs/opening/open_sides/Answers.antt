@@ -1,24 +1,27 @@
-use Rattle.std.proofs.Common.{◌≡◌, ◌-◌, drop, List, Option, Result, Ok, Err, sym, ◌∙◌, ap, subst, arith}
+use Rattle.std.proofs.Common.{◌≡◌, ◌≢◌, ℕ, ◌+◌, ◌-◌, ◌++◌, false, List, length, Option, Result, Ok, Err, refl, sym, ◌∙◌, ap, subst, arith}
 use Rattle.std.specs.Prelude.{IfSome}
 use Rattle.std.proofs.lemmas.Result.{err_from_is_err_and}
 use Rattle.odb_device.specs.World.{File, file_of}
-use Rattle.odb_device.specs.Moments.{Runs}
 use Rattle.odb_device.proofs.Time.{run_end}
-use Rattle.odb_reclog.specs.Standing.{Log, Stands as LogStands}
-use Rattle.odb_transdb.specs.declared.error.TransdbError.{TransdbError}
+use Rattle.odb_values.specs.Listed.{Listed}
+use Rattle.odb_reclog.specs.Standing.{Log}
 use Rattle.odb_model.specs.declared.entry.Entry.{Entry}
+use Rattle.odb_model.specs.State.{IsNumberedFrom}
+use Rattle.odb_transdb.specs.declared.error.TransdbError.{TransdbError}
 use Rattle.odb_transdb.specs.declared.error.TransdbError.TheVariants.{Fault}
-use Rattle.odb_transdb.specs.Walking.{sides_read}
-use Rattle.odb_transdb.specs.Header.{active_first, first_held}
-use Rattle.odb_transdb.specs.Opened.{opened, entries_in}
-use Rattle.odb_transdb.specs.Standing.{Db, Stands}
-use Rattle.odb_transdb.specs.Answers.{IsOpenAnswer, KeepsOpened, ClosesGates}
+use Rattle.odb_transdb.specs.Header.{side_start, side_end, first_on, active_first, first_held}
+use Rattle.odb_transdb.specs.Opened.{Opened, holding, opened}
+use Rattle.odb_transdb.specs.Standing.{Db}
+use Rattle.odb_transdb.specs.Answers.{IsFullAnswer, ClosesGates}
+use Rattle.odb_transdb.specs.Opening.{EndsRight, KeepsSide}
 use Rattle.odb_transdb.proofs.Opens.{gates_then}
-use Rattle.odb_transdb.proofs.Begun.{IsOfPair, IsBegun, begun_first, begun_live, begun_active, begun_look, based_first, low_side, whole_side, lives_on}
-use Rattle.odb_transdb.proofs.Finds.{refused_check, refused_live, AreOpen, refused_sides, found_sides, stands_sides, entries_sides, read_now}
+use Rattle.odb_transdb.proofs.Standing.{keeps_torn}
+use Rattle.odb_transdb.proofs.Begun.{IsOfPair, IsBegun, begun_first, begun_live, begun_active, based_first, low_side, whole_side, lives_on}
+use Rattle.odb_transdb.proofs.Shown.{live_still, all_numbered}
+use Rattle.odb_transdb.proofs.Finds.{refused_check, refused_live, AreOpen, HasFront, refused_rest, found_all, read_all, stands_sides, entries_sides}
 use Rattle.odb_transdb.proofs.opening.open_sides.Given.{Over}
 use Rattle.odb_transdb.proofs.opening.open_sides.Goals as goal
-use Rattle.odb_transdb.proofs.opening.open_sides.Goals.{After-check_sides, After-open_live, After-open_side, After-read_sides, In_ok-read_sides}
+use Rattle.odb_transdb.proofs.opening.open_sides.Goals.{After-check_sides, After-open_live, After-open_active, In_ok-active}
 
 of : (g : Over) (c : After-check_sides g) → IsOfPair c.args.pair c.args.header
 of g c = record { lawful = c.requires.lawful; value = c.requires.value }
@@ -33,11 +36,17 @@ begun g c of =
     begun_live c.args.pair c.args.header of w w1 (g.S.Outside.world c.open_live.new.store) reads first c.open_live.ensures.live c.open_live.ensures.quiet
 
 -- a refusal that `?` hands on
-handed : (Q : Result Db TransdbError → Type 0) (r : Result Db TransdbError) (e : TransdbError) → r ≡ Err e → Q (Err e) → Q r
+abbrev Found : Type 0
+Found = Db × List Entry
+
+abbrev Holding : Found → Opened → Type 0
+Holding found what = what ≡ holding found.0.header found.1
+
+handed : (Q : Result Found TransdbError → Type 0) (r : Result Found TransdbError) (e : TransdbError) → r ≡ Err e → Q (Err e) → Q r
 handed Q r e is q = subst Q (sym is) q
 
-abbrev Answers : Option File → Result Db TransdbError → Type 0
-Answers o r = IfSome o (λ f. IsOpenAnswer r (opened f.bytes))
+abbrev Answers : Option File → Result Found TransdbError → Type 0
+Answers o r = IfSome o (λ f. IsFullAnswer r (opened f.bytes))
 
 pub returns-in_err-check_sides-clause-answer : goal.returns-in_err-check_sides-clause-answer
 returns-in_err-check_sides-clause-answer g c =
@@ -45,7 +54,7 @@ returns-in_err-check_sides-clause-answer g c =
     let e = c.in_err-check_sides.field-0.0 in
     let p = err_from_is_err_and c.from_residual.result c.from_residual.ensures.1 in
     handed (Answers o) c.from_residual.result e (p.1 ∙ ap Err p.2)
-    (refused_check c.args.pair c.args.header o e (of g (goal.at.returns-in_err-check_sides-clause-answer g c).After-check_sides) c.requires.found c.in_err-check_sides.ensures.told)
+    (refused_check Holding c.args.pair c.args.header o e (of g (goal.at.returns-in_err-check_sides-clause-answer g c).After-check_sides) c.requires.found c.in_err-check_sides.ensures.told)
 
 pub returns-in_err-live-clause-answer : goal.returns-in_err-live-clause-answer
 returns-in_err-live-clause-answer g c =
@@ -57,140 +66,166 @@ returns-in_err-live-clause-answer g c =
     let is = of g (goal.at.returns-in_err-live-clause-answer g c).After-check_sides in
     let based = based_first c.args.pair c.args.header is o c.requires.kept c.requires.stands c.requires.found c.in_ok-check_sides.ensures.told in
     handed (Answers o) c.from_residual-in_err-live.result e (p.1 ∙ ap Err p.2)
-    (refused_live (Option Log) c.args.pair c.args.header o (file_of 0 w1) e (run_end 0 (λ f. f ≡ o) w w1 c.check_sides.ensures.run) (g.met.S.Store.reads_image c.args.store.now 0) based c.in_err-live.ensures.told)
+    (refused_live (λ f (found : Option Log × Listed Entry) (what : Opened). EndsRight c.args.header f.bytes) Holding c.args.pair c.args.header o (file_of 0 w1) e (run_end 0 (λ f. f ≡ o) w w1 c.check_sides.ensures.run)
+    (g.met.S.Store.reads_image c.args.store.now 0) based c.in_err-live.ensures.told)
 
 pub returns-in_err-live-clause-run : goal.returns-in_err-live-clause-run
 returns-in_err-live-clause-run g c =
     let at = goal.at.returns-in_err-live-clause-run g c in
     (begun g at.After-open_live (of g at.After-check_sides)).run
 
--- after the active side's log was opened
-further : (g : Over) (c : After-open_side g) (of : IsOfPair c.args.pair c.args.header) → IsBegun c.args.pair c.args.header of (g.S.Outside.world c.args.store.now) (g.S.Outside.world c.open_live.new.store)
-    → IsBegun c.args.pair c.args.header of (g.S.Outside.world c.args.store.now) (g.S.Outside.world c.open_side.new.store)
+-- after the active side was read
+further : (g : Over) (c : After-open_active g) (of : IsOfPair c.args.pair c.args.header) → IsBegun c.args.pair c.args.header of (g.S.Outside.world c.args.store.now) (g.S.Outside.world c.open_live.new.store)
+    → IsBegun c.args.pair c.args.header of (g.S.Outside.world c.args.store.now) (g.S.Outside.world c.open_active.new.store)
 further g c of so_far =
-    begun_active c.args.pair c.args.header of (g.S.Outside.world c.args.store.now) (g.S.Outside.world c.open_live.new.store) (g.S.Outside.world c.open_side.new.store) (g.met.S.Store.reads_image c.args.store.now 0) so_far c.open_side.ensures.run
+    begun_active c.args.pair c.args.header of (g.S.Outside.world c.args.store.now) (g.S.Outside.world c.open_live.new.store) (g.S.Outside.world c.open_active.new.store) (g.met.S.Store.reads_image c.args.store.now 0) so_far c.open_active.ensures.run
 
 pub returns-in_err-active-clause-run : goal.returns-in_err-active-clause-run
 returns-in_err-active-clause-run g c =
     let at = goal.at.returns-in_err-active-clause-run g c in
     let is = of g at.After-check_sides in
-    (further g at.After-open_side is (begun g at.After-open_live is)).run
-
-lives : (g : Over) (c : After-open_side g) (of : IsOfPair c.args.pair c.args.header) (active : Log) → active.first ≡ active_first c.args.header
-    → IfSome c.in_ok-live.live (λ log. LogStands log (file_of 0 (g.S.Outside.world c.open_side.new.store)))
-lives g c of active first =
-    lives_on c.args.header c.in_ok-live.live active (g.S.Outside.world c.open_live.new.store) (g.S.Outside.world c.open_side.new.store) (low_side c.args.pair c.args.header of) (whole_side c.args.pair c.args.header of c.args.header.active)
-    (c.in_ok-live.ensures.log active first) c.in_ok-live.ensures.stands c.open_side.ensures.run (g.met.S.Store.reads_image c.open_side.new.store 0)
-
-pub read_sides-requires-clause-live : goal.read_sides-requires-clause-live
-read_sides-requires-clause-live g c =
-    let at = goal.at.read_sides-requires-clause-live g c in
-    lives g at.After-open_side (of g at.After-check_sides) c.in_ok-active.active c.in_ok-active.ensures.side.first
-
--- both logs are open
-are : (g : Over) (c : After-read_sides g) (of : IsOfPair c.args.pair c.args.header) → IsBegun c.args.pair c.args.header of (g.S.Outside.world c.args.store.now) (g.S.Outside.world c.open_side.new.store)
-    → IfSome c.in_ok-live.live (λ log. LogStands log (file_of 0 (g.S.Outside.world c.open_side.new.store)))
-    → AreOpen c.args.pair c.args.header c.in_ok-live.live c.in_ok-active.active (file_of 0 (g.S.Outside.world c.args.store.now)) (file_of 0 (g.S.Outside.world c.open_side.new.store))
-are g c of so_far lives = record {
-  based = so_far.based;
-  told = so_far.run.only.told (g.S.Outside.world c.open_side.new.store).time so_far.run.only.later (omega arith);
-  reads = g.met.S.Store.reads_image c.open_side.new.store 0;
-  side = c.in_ok-active.ensures.side;
-  stands = c.in_ok-active.ensures.stands;
-  by = c.in_ok-live.ensures.log c.in_ok-active.active c.in_ok-active.ensures.side.first;
-  lives = lives;
-}
-
--- the moments of all of it
-run : (g : Over) (c : After-read_sides g) (of : IsOfPair c.args.pair c.args.header) → IsBegun c.args.pair c.args.header of (g.S.Outside.world c.args.store.now) (g.S.Outside.world c.open_side.new.store)
-    → Runs 0 (KeepsOpened (file_of 0 (g.S.Outside.world c.args.store.now))) (g.S.Outside.world c.args.store.now) (g.S.Outside.world c.read_sides.new.store)
-run g c of so_far =
-    (begun_look c.args.pair c.args.header of (g.S.Outside.world c.args.store.now) (g.S.Outside.world c.open_side.new.store) (g.S.Outside.world c.read_sides.new.store) (g.met.S.Store.reads_image c.args.store.now 0) so_far c.read_sides.ensures.run).run
-
--- and the bytes
-bytes : (g : Over) (c : After-read_sides g) (of : IsOfPair c.args.pair c.args.header) → IsBegun c.args.pair c.args.header of (g.S.Outside.world c.args.store.now) (g.S.Outside.world c.open_live.new.store)
-    → ClosesGates (file_of 0 (g.S.Outside.world c.args.store.now)) (file_of 0 (g.S.Outside.world c.read_sides.new.store))
-bytes g c of so_far =
-    let w = g.S.Outside.world c.args.store.now in
-    let w1 = g.S.Outside.world c.check_sides.new.store in
-    let w2 = g.S.Outside.world c.open_live.new.store in
-    let w3 = g.S.Outside.world c.open_side.new.store in
-    let w4 = g.S.Outside.world c.read_sides.new.store in
-    let first : ClosesGates (file_of 0 w) (file_of 0 w2) =
-    subst (λ (o : Option File). ClosesGates o (file_of 0 w2)) (run_end 0 (λ f. f ≡ file_of 0 w) w w1 c.check_sides.ensures.run) (c.in_ok-live.ensures.bytes (λ (e : Ok c.in_ok-live.live ≡ Err Fault). absurd (cc e))) in
-    let second : ClosesGates (file_of 0 w2) (file_of 0 w3) = c.in_ok-active.ensures.bytes (λ (e : Ok c.in_ok-active.active ≡ Err Fault). absurd (cc e)) in
-    let told = so_far.run.only.told w2.time so_far.run.only.later (omega arith) in
-    subst (ClosesGates (file_of 0 w)) (sym (run_end 0 (λ f. f ≡ file_of 0 w3) w3 w4 c.read_sides.ensures.run)) (gates_then (file_of 0 w) (file_of 0 w2) (file_of 0 w3) told first second)
-
-pub returns-in_err-read_sides-clause-answer : goal.returns-in_err-read_sides-clause-answer
-returns-in_err-read_sides-clause-answer g c =
-    let at = goal.at.returns-in_err-read_sides-clause-answer g c in
-    let is = of g at.After-check_sides in
-    let so_far = further g at.After-open_side is (begun g at.After-open_live is) in
-    let w = g.S.Outside.world c.args.store.now in
-    let w3 = g.S.Outside.world c.open_side.new.store in
-    let e = c.in_err-read_sides.field-0.0 in
-    let p = err_from_is_err_and c.from_residual-in_err-read_sides.result c.from_residual-in_err-read_sides.ensures.1 in
-    let lives_now = lives g at.After-open_side is c.in_ok-active.active c.in_ok-active.ensures.side.first in
-    handed (Answers (file_of 0 w)) c.from_residual-in_err-read_sides.result e (p.1 ∙ ap Err p.2)
-    (refused_sides c.args.pair c.args.header c.in_ok-live.live c.in_ok-active.active (file_of 0 w) (file_of 0 w3) (are g at.After-read_sides is so_far lives_now)
-    {T = List Entry} (λ all es. es ≡ drop (18446744073709551615 - first_held c.args.header) all) e c.in_err-read_sides.ensures.told)
-
-pub returns-in_err-read_sides-clause-run : goal.returns-in_err-read_sides-clause-run
-returns-in_err-read_sides-clause-run g c =
-    let at = goal.at.returns-in_err-read_sides-clause-run g c in
-    let is = of g at.After-check_sides in
-    run g at.After-read_sides is (further g at.After-open_side is (begun g at.After-open_live is))
-
-pub returns-in_err-read_sides-clause-bytes : goal.returns-in_err-read_sides-clause-bytes
-returns-in_err-read_sides-clause-bytes g c = λ _.
-    let at = goal.at.returns-in_err-read_sides-clause-bytes g c in
-    let is = of g at.After-check_sides in
-    bytes g at.After-read_sides is (begun g at.After-open_live is)
+    (further g at.After-open_active is (begun g at.After-open_live is)).run
 
 pub returns-clause-run : goal.returns-clause-run
 returns-clause-run g c =
     let at = goal.at.returns-clause-run g c in
     let is = of g at.After-check_sides in
-    run g at.After-read_sides is (further g at.After-open_side is (begun g at.After-open_live is))
+    (further g at.After-open_active is (begun g at.After-open_live is)).run
+
+-- a log that begins where the active side's does
+abbrev some_log : ℕ → Log
+some_log first = record {
+  file = 0;
+  start = 0;
+  end = 0;
+  first = first;
+  place = 0;
+  next = 0;
+  clear_from = 0;
+  touched = false;
+  has_body = false;
+  in_doubt = false;
+}
+
+-- the entries of the other side stand as they were read
+front : (g : Over) (c : After-open_active g) (of : IsOfPair c.args.pair c.args.header) → IsBegun c.args.pair c.args.header of (g.S.Outside.world c.args.store.now) (g.S.Outside.world c.open_active.new.store)
+    → HasFront c.args.pair c.args.header c.in_ok-live.entries.items (file_of 0 (g.S.Outside.world c.args.store.now)) (file_of 0 (g.S.Outside.world c.open_active.new.store))
+front g c of so_far =
+    let h = c.args.header in
+    let w2 = g.S.Outside.world c.open_live.new.store in
+    let w3 = g.S.Outside.world c.open_active.new.store in
+    let active = some_log (active_first h) in
+    let at = side_start h h.active in
+    let n = side_end h h.active - side_start h h.active in
+    let keeps = run_end 0 (KeepsSide h h.active (file_of 0 w2)) w2 w3 c.open_active.ensures.run in
+    let torn = keeps_torn (side_start h h.active) (side_end h h.active) (first_on h h.active) at n (file_of 0 w2) (file_of 0 w3) keeps in
+    let reads = g.met.S.Store.reads_image c.open_active.new.store 0 in
+    record {
+      based = so_far.based;
+      told = so_far.run.only.told w3.time so_far.run.only.later (omega arith);
+      reads = reads;
+      read = live_still h c.in_ok-live.live active at n c.in_ok-live.entries.items (file_of 0 w2) (file_of 0 w3) (low_side c.args.pair h of) (whole_side c.args.pair h of h.active)
+          (c.in_ok-live.ensures.log active refl) c.in_ok-live.ensures.stands torn reads c.in_ok-live.ensures.read;
+      count = c.in_ok-live.ensures.numbers.1;
+    }
+
+pub returns-in_err-active-clause-answer : goal.returns-in_err-active-clause-answer
+returns-in_err-active-clause-answer g c =
+    let at = goal.at.returns-in_err-active-clause-answer g c in
+    let is = of g at.After-check_sides in
+    let so_far = further g at.After-open_active is (begun g at.After-open_live is) in
+    let o = file_of 0 (g.S.Outside.world c.args.store.now) in
+    let e = c.in_err-active.field-0.0 in
+    let p = err_from_is_err_and c.from_residual-in_err-active.result c.from_residual-in_err-active.ensures.1 in
+    handed (Answers o) c.from_residual-in_err-active.result e (p.1 ∙ ap Err p.2)
+    (refused_rest c.args.pair c.args.header c.in_ok-live.entries.items {T = Log} (λ all _. c.open_active.new.entries.items ≡ c.in_ok-live.entries.items ++ all) Holding o
+    (file_of 0 (g.S.Outside.world c.open_active.new.store)) e (front g at.After-open_active is so_far) c.in_err-active.ensures.told)
+
+-- the bytes, where the active side's log had no fault
+bytes : (g : Over) (c : After-open_active g) (of : IsOfPair c.args.pair c.args.header) → IsBegun c.args.pair c.args.header of (g.S.Outside.world c.args.store.now) (g.S.Outside.world c.open_live.new.store)
+    → c.open_active.result ≢ Err Fault → ClosesGates (file_of 0 (g.S.Outside.world c.args.store.now)) (file_of 0 (g.S.Outside.world c.open_active.new.store))
+bytes g c of so_far whole =
+    let w = g.S.Outside.world c.args.store.now in
+    let w1 = g.S.Outside.world c.check_sides.new.store in
+    let w2 = g.S.Outside.world c.open_live.new.store in
+    let w3 = g.S.Outside.world c.open_active.new.store in
+    let first : ClosesGates (file_of 0 w) (file_of 0 w2) =
+    subst (λ (o : Option File). ClosesGates o (file_of 0 w2)) (run_end 0 (λ f. f ≡ file_of 0 w) w w1 c.check_sides.ensures.run)
+    (c.in_ok-live.ensures.bytes (λ (e : Ok (c.in_ok-live.live, c.in_ok-live.entries) ≡ Err Fault). absurd (cc e))) in
+    let told = so_far.run.only.told w2.time so_far.run.only.later (omega arith) in
+    gates_then (file_of 0 w) (file_of 0 w2) (file_of 0 w3) told first (c.open_active.ensures.bytes whole)
+
+pub returns-in_err-active-clause-bytes : goal.returns-in_err-active-clause-bytes
+returns-in_err-active-clause-bytes g c = λ other.
+    let at = goal.at.returns-in_err-active-clause-bytes g c in
+    let is = of g at.After-check_sides in
+    let p = err_from_is_err_and c.from_residual-in_err-active.result c.from_residual-in_err-active.ensures.1 in
+    bytes g at.After-open_active is (begun g at.After-open_live is)
+    (λ (same : c.open_active.result ≡ Err Fault).
+    let fault : c.in_err-active.field-0.0 ≡ Fault = cc (c.in_err-active.was, same) in
+    other (p.1 ∙ ap Err (p.2 ∙ fault)))
 
 pub returns-clause-bytes : goal.returns-clause-bytes
 returns-clause-bytes g c = λ _.
     let at = goal.at.returns-clause-bytes g c in
     let is = of g at.After-check_sides in
-    bytes g at.After-read_sides is (begun g at.After-open_live is)
+    bytes g at.After-open_active is (begun g at.After-open_live is) (λ (same : c.open_active.result ≡ Err Fault). absurd (cc (c.in_ok-active.was, same)))
 
--- all is read
-read : (g : Over) (c : In_ok-read_sides g) → IfSome (file_of 0 (g.S.Outside.world c.open_side.new.store)) (λ f. (all : List Entry) × (sides_read c.args.header f.bytes ≡ Ok all))
-read g c = read_now c.args.header (file_of 0 (g.S.Outside.world c.open_side.new.store)) (λ all. c.in_ok-read_sides.field-0 ≡ drop (18446744073709551615 - first_held c.args.header) all) c.in_ok-read_sides.ensures.told
+-- both logs are open
+are : (g : Over) (c : In_ok-active g) (of : IsOfPair c.args.pair c.args.header) → IsBegun c.args.pair c.args.header of (g.S.Outside.world c.args.store.now) (g.S.Outside.world c.open_active.new.store)
+    → AreOpen c.args.pair c.args.header c.in_ok-live.live c.in_ok-active.active (file_of 0 (g.S.Outside.world c.args.store.now)) (file_of 0 (g.S.Outside.world c.open_active.new.store))
+are g c of so_far =
+    let h = c.args.header in
+    let w2 = g.S.Outside.world c.open_live.new.store in
+    let w3 = g.S.Outside.world c.open_active.new.store in
+    let active = c.in_ok-active.active in
+    let reads = g.met.S.Store.reads_image c.open_active.new.store 0 in
+    let by = c.in_ok-live.ensures.log active c.in_ok-active.ensures.side.first in
+    record {
+      based = so_far.based;
+      told = so_far.run.only.told w3.time so_far.run.only.later (omega arith);
+      reads = reads;
+      side = c.in_ok-active.ensures.side;
+      stands = c.in_ok-active.ensures.stands;
+      by = by;
+      lives = lives_on h c.in_ok-live.live active w2 w3 (low_side c.args.pair h of) (whole_side c.args.pair h of h.active) by c.in_ok-live.ensures.stands c.open_active.ensures.run reads;
+    }
 
 pub returns-clause-answer : goal.returns-clause-answer
 returns-clause-answer g c =
     let at = goal.at.returns-clause-answer g c in
     let is = of g at.After-check_sides in
-    let so_far = further g at.After-open_side is (begun g at.After-open_live is) in
-    let lives_now = lives g at.After-open_side is c.in_ok-active.active c.in_ok-active.ensures.side.first in
-    found_sides c.args.pair c.args.header c.in_ok-live.live c.in_ok-active.active (file_of 0 (g.S.Outside.world c.args.store.now)) (file_of 0 (g.S.Outside.world c.open_side.new.store)) (are g at.After-read_sides is so_far lives_now)
-    (read g at.In_ok-read_sides)
+    let so_far = further g at.After-open_active is (begun g at.After-open_live is) in
+    let h = c.args.header in
+    let o = file_of 0 (g.S.Outside.world c.args.store.now) in
+    let now = file_of 0 (g.S.Outside.world c.open_active.new.store) in
+    subst (λ (l : List Entry). IfSome o (λ f. opened f.bytes ≡ holding h l)) (sym c.new.ensures)
+    (found_all c.args.pair h c.in_ok-live.entries.items c.open_active.new.entries.items o now (front g at.After-open_active is so_far) c.in_ok-active.ensures.told)
 
 pub returns-clause-stands : goal.returns-clause-stands
 returns-clause-stands g c =
     let at = goal.at.returns-clause-stands g c in
     let is = of g at.After-check_sides in
-    let so_far = further g at.After-open_side is (begun g at.After-open_live is) in
-    let lives_now = lives g at.After-open_side is c.in_ok-active.active c.in_ok-active.ensures.side.first in
-    let w3 = g.S.Outside.world c.open_side.new.store in
-    let w4 = g.S.Outside.world c.read_sides.new.store in
-    subst (Stands (record { header = c.args.header; pair = c.args.pair; active = c.in_ok-active.active; live = c.in_ok-live.live })) (sym (run_end 0 (λ f. f ≡ file_of 0 w3) w3 w4 c.read_sides.ensures.run))
-    (stands_sides c.args.pair c.args.header c.in_ok-live.live c.in_ok-active.active (file_of 0 (g.S.Outside.world c.args.store.now)) (file_of 0 w3) (are g at.After-read_sides is so_far lives_now) (read g at.In_ok-read_sides))
+    let so_far = further g at.After-open_active is (begun g at.After-open_live is) in
+    let o = file_of 0 (g.S.Outside.world c.args.store.now) in
+    let now = file_of 0 (g.S.Outside.world c.open_active.new.store) in
+    let fronted = front g at.After-open_active is so_far in
+    let items = c.in_ok-live.entries.items in
+    stands_sides c.args.pair c.args.header c.in_ok-live.live c.in_ok-active.active o now (are g at.In_ok-active is so_far)
+    (read_all c.args.pair c.args.header items c.open_active.new.entries.items o now fronted c.in_ok-active.ensures.told)
 
 pub returns-clause-entries : goal.returns-clause-entries
 returns-clause-entries g c =
     let at = goal.at.returns-clause-entries g c in
     let is = of g at.After-check_sides in
-    let so_far = further g at.After-open_side is (begun g at.After-open_live is) in
-    let lives_now = lives g at.After-open_side is c.in_ok-active.active c.in_ok-active.ensures.side.first in
-    let w3 = g.S.Outside.world c.open_side.new.store in
-    let w4 = g.S.Outside.world c.read_sides.new.store in
-    ap entries_in (run_end 0 (λ f. f ≡ file_of 0 w3) w3 w4 c.read_sides.ensures.run)
-    ∙ entries_sides c.args.pair c.args.header c.in_ok-live.live c.in_ok-active.active (file_of 0 (g.S.Outside.world c.args.store.now)) (file_of 0 w3) (are g at.After-read_sides is so_far lives_now)
+    let so_far = further g at.After-open_active is (begun g at.After-open_live is) in
+    entries_sides c.args.pair c.args.header c.in_ok-live.live c.in_ok-active.active (file_of 0 (g.S.Outside.world c.args.store.now)) (file_of 0 (g.S.Outside.world c.open_active.new.store))
+    (are g at.In_ok-active is so_far)
+
+pub returns-clause-numbers : goal.returns-clause-numbers
+returns-clause-numbers g c =
+    let active = c.in_ok-active.active in
+    let numbers = c.in_ok-live.ensures.numbers in
+    subst (λ (l : List Entry). IsNumberedFrom (first_held c.args.header) l × (first_held c.args.header + length l ≡ active.next)) (sym c.new.ensures)
+    (all_numbered (first_held c.args.header) (active_first c.args.header) active.next (active.place - active.start) c.in_ok-live.entries.items c.open_active.new.entries.items numbers.0 numbers.1
+    c.in_ok-active.ensures.least.0 c.in_ok-active.ensures.part)

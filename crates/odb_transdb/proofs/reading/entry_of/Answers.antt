@@ -8,10 +8,11 @@ use Rattle.odb_transdb.proofs.reading.entry_of.Goals as goal
 pub returns-in-Ok : goal.returns-in-Ok
 returns-in-Ok c =
     let e = c.in-Ok.entry in
-    let record_now = c.args.found.now in
+    let payload = c.args.payload.now in
+    let number = c.args.number in
     let found = c.in-Ok.ensures.found in
-    let image : record_now.payload ≡ entry_image e = sym c.as_slice.ensures ∙ found.2 in (
-      ap (read_entry record_now.number) image ∙ entry_again record_now.number e found.1 ∙ ap (λ (n : ℕ). Ok (record e { number = n })) (sym found.0),
+    let image : payload ≡ entry_image e = sym c.as_slice.ensures ∙ found.2 in (
+      ap (read_entry number) image ∙ entry_again number e found.1 ∙ ap (λ (n : ℕ). Ok (record e { number = n })) (sym found.0),
       found.0,
       omega (arith, length-entry_image e, ap (length {A = ℕ}) image),
     )
@@ -21,4 +22,4 @@ returns-in-Err-Malformed c =
     let at = c.in-Err-Malformed.field-0-0 in
     let now = c.as_slice.result.now in
     let fault = c.decode_entry.ensures.malformed at (c.in-Err-Malformed.is ∙ ap Err c.in-Err-Malformed.field-0-is) in
-    (refl, (length now - at, ap (read_entry c.args.found.now.number) (sym c.as_slice.ensures) ∙ fault.fault))
+    (refl, (length now - at, ap (read_entry c.args.number) (sym c.as_slice.ensures) ∙ fault.fault))

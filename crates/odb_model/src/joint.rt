@@ -1,0 +1,46 @@
+ghost use Rattle.std.specs.Prelude.{◌≡◌, IfOk, fold, reverse};
+ghost use Rattle.odb_model.specs.Joint.{under};
+
+use crate::Predicate;
+use sqlite_items::Boxed;
+use std::alloc::{AllocError, Global};
+
+/// What stands above the left part of a predicate, with its right part.
+#[derive(Drop)]
+pub enum Joint {
+    /// A NOT, which has no right part.
+    Not,
+    /// An AND with this right part.
+    And(Predicate),
+    /// An OR with this right part.
+    Or(Predicate),
+}
+
+impl Joint {
+    /// The predicate of this joint whose left part is this one. The error is want of memory.
+    fn over(self, alloc: Global, left: Predicate) -> Result<Predicate, AllocError>
+        ensures { IfOk result (λ whole. whole ≡ under left self) }
+    {
+        let left = Boxed::new(alloc, left)?;
+        match self {
+            Joint::Not => Ok(Predicate::Not(left)),
+            Joint::And(right) => Ok(Predicate::And(left, Boxed::new(alloc, right)?)),
+            Joint::Or(right) => Ok(Predicate::Or(left, Boxed::new(alloc, right)?)),
+        }
+    }
+}
+
+/// The predicate that has these joints, the topmost first, above this one. The error is want of memory.
+pub fn joined(
+    alloc: Global,
+    mut joints: Vec<Joint>,
+    lowest: Predicate,
+) -> Result<Predicate, AllocError>
+    ensures { IfOk result (λ whole. whole ≡ fold under lowest (reverse joints.items)) }
+{
+    let mut whole = lowest;
+    while let Some(joint) = joints.pop() {
+        whole = joint.over(alloc, whole)?;
+    }
+    Ok(whole)
+}

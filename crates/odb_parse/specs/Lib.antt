@@ -1,0 +1,9 @@
+pub mod Codes
+pub mod Error
+pub mod Items
+pub mod Reading
+pub mod Sums
+pub mod Predicates
+pub mod Statements
+pub mod Answering
+pub mod Trimmed

@@ -1,0 +1,13 @@
+use odb_model::{Keyword, Sign};
+
+/// What stands next in a text, as far as a parser chooses by it.
+#[derive(Clone, Copy, Debug, PartialEq, Eq)]
+pub enum Kind {
+    /// No token.
+    Nothing,
+    Word(Keyword),
+    Name,
+    Number,
+    Quoted,
+    Symbol(Sign),
+}

@@ -1,0 +1,132 @@
+//! What a WHERE asks.
+ghost use Rattle.std.specs.Prelude.{◌≡◌, ◌≤◌, length, OnOk};
+ghost use Rattle.odb_parse.specs.Reading.{Reads};
+ghost use Rattle.odb_parse.specs.Predicates as spec;
+
+use crate::ParseError;
+use crate::kind::Kind;
+use crate::sums::operand;
+use crate::tokens::Tokens;
+use odb_model::{Compare, Keyword, Operand, Predicate, Sign};
+use sqlite_items::Boxed;
+use std::alloc::Global;
+
+/// How many NOTs and opening parentheses stand inside one another at most.
+const MOST_NESTED: u32 = 64;
+
+/// `[WHERE pred]`
+#[tactic(auto, unfolding(crate::specs::Predicates::filter))]
+pub fn filter(alloc: Global, tokens: &mut Tokens<'_>) -> Result<Option<Predicate>, ParseError>
+    ensures reads { Reads (spec.filter tokens.old) result tokens.new }
+    ensures shorter { OnOk result (length tokens.new ≤ length tokens.old) }
+{
+    if tokens.eat_word(Keyword::Where)? {
+        Ok(Some(predicate(alloc, tokens, MOST_NESTED)?))
+    } else {
+        Ok(None)
+    }
+}
+
+/// `both {OR both}`, with room for so many NOTs and parentheses inside one another.
+#[cycle(predicate)]
+#[tactic(auto, unfolding(crate::specs::Predicates::predicate, crate::specs::Predicates::whole_of))]
+fn predicate(alloc: Global, tokens: &mut Tokens<'_>, room: u32) -> Result<Predicate, ParseError>
+    ensures reads { Reads (spec.predicate room tokens.old) result tokens.new }
+    ensures shorter { OnOk result (length tokens.new ≤ length tokens.old) }
+{
+    let mut all = both(alloc, tokens, room)?;
+    'ors: while tokens.eat_word(Keyword::Or)? {
+        let next = Boxed::new(alloc, both(alloc, tokens, room)?)?;
+        all = Predicate::Or(Boxed::new(alloc, all)?, next);
+    }
+    Ok(all)
+}
+
+/// `no {AND no}`
+#[cycle(predicate)]
+#[tactic(auto, unfolding(crate::specs::Predicates::both, crate::specs::Predicates::both_of))]
+fn both(alloc: Global, tokens: &mut Tokens<'_>, room: u32) -> Result<Predicate, ParseError>
+    ensures reads { Reads (spec.both room tokens.old) result tokens.new }
+    ensures shorter { OnOk result (length tokens.new ≤ length tokens.old) }
+{
+    let mut all = no(alloc, tokens, room)?;
+    'ands: while tokens.eat_word(Keyword::And)? {
+        let next = Boxed::new(alloc, no(alloc, tokens, room)?)?;
+        all = Predicate::And(Boxed::new(alloc, all)?, next);
+    }
+    Ok(all)
+}
+
+/// `NOT no | ( pred ) | test`
+#[cycle(predicate)]
+#[tactic(auto, unfolding(crate::specs::Predicates::no))]
+fn no(alloc: Global, tokens: &mut Tokens<'_>, room: u32) -> Result<Predicate, ParseError>
+    ensures reads { Reads (spec.no room tokens.old) result tokens.new }
+    ensures shorter { OnOk result (length tokens.new ≤ length tokens.old) }
+{
+    if room == 0 {
+        return test(alloc, tokens);
+    }
+    match tokens.peek() {
+        Kind::Word(Keyword::Not) => {
+            tokens.skip()?;
+            let negated = no(alloc, tokens, room - 1)?;
+            Ok(Predicate::Not(Boxed::new(alloc, negated)?))
+        }
+        Kind::Symbol(Sign::Open) => {
+            tokens.skip()?;
+            let inner = predicate(alloc, tokens, room - 1)?;
+            tokens.expect_sign(Sign::Close)?;
+            Ok(inner)
+        }
+        _ => test(alloc, tokens),
+    }
+}
+
+/// `operand (= | <> | < | <= | > | >=) operand | name IS [NOT] NULL`
+#[tactic(auto, unfolding(crate::specs::Predicates::test))]
+fn test(alloc: Global, tokens: &mut Tokens<'_>) -> Result<Predicate, ParseError>
+    ensures reads { Reads (spec.test tokens.old) result tokens.new }
+    ensures shorter { OnOk result (length tokens.new ≤ length tokens.old) }
+{
+    let left = operand(alloc, tokens)?;
+    if tokens.sees_word(Keyword::Is) {
+        return null_test(tokens, left);
+    }
+    let Some(op) = compares(tokens.peek()) else {
+        return Err(tokens.refuse());
+    };
+    tokens.skip()?;
+    let right = operand(alloc, tokens)?;
+    Ok(Predicate::Test { op, left, right })
+}
+
+/// `name IS [NOT] NULL`, from IS on
+#[tactic(auto, unfolding(crate::specs::Predicates::null_test))]
+fn null_test(tokens: &mut Tokens<'_>, left: Operand) -> Result<Predicate, ParseError>
+    ensures reads { Reads (spec.null_test left tokens.old) result tokens.new }
+    ensures shorter { OnOk result (length tokens.new ≤ length tokens.old) }
+{
+    let Operand::Column(column) = left else {
+        return Err(tokens.refuse());
+    };
+    tokens.skip()?;
+    let negated = tokens.eat_word(Keyword::Not)?;
+    tokens.expect_word(Keyword::Null)?;
+    Ok(Predicate::Null { column, negated })
+}
+
+/// How a sign compares.
+fn compares(kind: Kind) -> Option<Compare>
+    ensures { result ≡ spec.compares kind }
+{
+    match kind {
+        Kind::Symbol(Sign::Equal) => Some(Compare::Eq),
+        Kind::Symbol(Sign::Unequal) => Some(Compare::Ne),
+        Kind::Symbol(Sign::Less) => Some(Compare::Lt),
+        Kind::Symbol(Sign::AtMost) => Some(Compare::Le),
+        Kind::Symbol(Sign::Greater) => Some(Compare::Gt),
+        Kind::Symbol(Sign::AtLeast) => Some(Compare::Ge),
+        _ => None,
+    }
+}

@@ -1,0 +1,14 @@
+mod Appends
+pub mod Canonical
+pub mod CanonicalFolds
+pub mod CanonicalParts
+pub mod CanonicalPredicates
+pub mod CanonicalRight
+mod Joins
+mod Quotes
+pub mod Tokens
+pub mod TokensCanonical
+pub mod TokensOne
+pub mod TokensParts
+pub mod TokensStatements
+pub mod Lexemes
