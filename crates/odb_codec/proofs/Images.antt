@@ -7,7 +7,7 @@ use Rattle.std.proofs.lemmas.Bool.{leb-true, le-leb, ltb-false, le-ltb}
 use Rattle.std.proofs.lemmas.List.{take_at, drop_at, take-append-drop, length-append, length-take}
 use Rattle.odb_values.specs.declared.value.Value.{Value}
 use Rattle.odb_values.specs.Key.{IsKey, width_of_all}
-use Rattle.odb_model.specs.State.{Place}
+use Rattle.odb_model.specs.declared.table_key.TableKey.{TableKey}
 use Rattle.odb_codec.specs.Image.{counted, values_image, change_image, IsTyped}
 use Rattle.odb_model.specs.Width.{width_of_change}
 use Rattle.odb_codec.specs.Reading.{◌>>=◌, number_at, values_in, in_front_of, image_at, is_key, is_above, key_at, row_at, change_at}
@@ -58,19 +58,19 @@ counted_again vs rest short =
     ap (number_at w16) regrouped ∙ number_again w16 (2 ^ 16) wide16 (length (values_image vs)) (values_image vs ++ rest) short
 
 -- what a key is that was read
-pub record IsKeyRead (before : Option Place) (table : ℕ) (bytes : List ℕ) (key : List Value) (rest : List ℕ) : Type 0 where
+pub record IsKeyRead (before : Option TableKey) (table : ℕ) (bytes : List ℕ) (key : List Value) (rest : List ℕ) : Type 0 where
   pub takes : Takes bytes (counted (values_image key)) rest
   pub is_key : IsKey key
   pub typed : AllByRecursion IsTyped key
-  pub above : is_above before (table, key) ≡ true
+  pub above : is_above before (record { table = table; key = key }) ≡ true
 
-pub key_takes : (before : Option Place) (table : ℕ) (bytes : List ℕ) (x : List Value × List ℕ) → IsBytes bytes → key_at before table bytes ≡ Ok x → IsKeyRead before table bytes x.0 x.1
+pub key_takes : (before : Option TableKey) (table : ℕ) (bytes : List ℕ) (x : List Value × List ℕ) → IsBytes bytes → key_at before table bytes ≡ Ok x → IsKeyRead before table bytes x.0 x.1
 unfolding key_at
 key_takes before table bytes x fits e =
-    let a = bind_ok (number_at w16 bytes) (λ len. image_at len.0 len.1 >>= λ key. cond (is_key key.0) (cond (is_above before (table, key.0)) (Ok key) (Err (length len.1))) (Err (length bytes))) x e in
-    let b = bind_ok (image_at a.0.0 a.0.1) (λ key. cond (is_key key.0) (cond (is_above before (table, key.0)) (Ok key) (Err (length a.0.1))) (Err (length bytes))) x a.2 in
+    let a = bind_ok (number_at w16 bytes) (λ len. image_at len.0 len.1 >>= λ key. cond (is_key key.0) (cond (is_above before (record { table = table; key = key.0 })) (Ok key) (Err (length len.1))) (Err (length bytes))) x e in
+    let b = bind_ok (image_at a.0.0 a.0.1) (λ key. cond (is_key key.0) (cond (is_above before (record { table = table; key = key.0 })) (Ok key) (Err (length a.0.1))) (Err (length bytes))) x a.2 in
     let t = counted_takes bytes a.0 b.0 fits a.1 b.1 in
-    let g = tests (is_key b.0.0) (is_above before (table, b.0.0)) (length bytes) (length a.0.1) b.0 x b.2 in
+    let g = tests (is_key b.0.0) (is_above before (record { table = table; key = b.0.0 })) (length bytes) (length a.0.1) b.0 x b.2 in
     subst (λ (y : List Value × List ℕ). IsKeyRead before table bytes y.0 y.1) g.2
     (record { takes = t.0; is_key = IsKey-from_test b.0.0 g.0; typed = t.2; above = g.1 })
   where
@@ -79,7 +79,7 @@ key_takes before table bytes x fits e =
     tests true false d e x y h = absurd cc
     tests false c d e x y h = absurd cc
 
-pub key_again : (before : Option Place) (table : ℕ) (key : List Value) (rest : List ℕ) → IsKey key → AllByRecursion IsTyped key → is_above before (table, key) ≡ true → key_at before table (counted (values_image key) ++ rest) ≡ Ok (key, rest)
+pub key_again : (before : Option TableKey) (table : ℕ) (key : List Value) (rest : List ℕ) → IsKey key → AllByRecursion IsTyped key → is_above before (record { table = table; key = key }) ≡ true → key_at before table (counted (values_image key) ++ rest) ≡ Ok (key, rest)
 unfolding key_at
 key_again before table key rest is typed above =
     let width = length-values_image key in

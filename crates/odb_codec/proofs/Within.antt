@@ -4,7 +4,8 @@ use Rattle.std.specs.Int.{Width, w8, w16, w32, w64, byte_len}
 use Rattle.std.proofs.lemmas.List.{length-drop, length-take}
 use Rattle.odb_values.specs.declared.value.Value.{Value}
 use Rattle.odb_values.specs.Key.{width_of_all}
-use Rattle.odb_model.specs.State.{Place, place_of}
+use Rattle.odb_model.specs.declared.table_key.TableKey.{TableKey}
+use Rattle.odb_model.specs.State.{table_key_of}
 use Rattle.odb_codec.specs.Reading.{Read, ◌>>=◌, number_at, number_between, text_at, behind_kind, as_one, value_at, values_upto, values_in, in_front_of, image_at, is_key, is_above, key_at, row_at, change_at, write_at, writes_at, read_entry, read_key, read_row}
 
 abbrev pub Within : {A : Type 0} → ℕ → Read A → Type 0
@@ -100,14 +101,14 @@ image_within len bytes = parts (values_in (take len bytes)) (values_within (take
     parts (Ok values) h = Within-test (length bytes) _ (Err 0) (Ok (values, drop len bytes)) (omega arith) (omega (arith, length-drop len bytes))
     parts (Err left) h = omega (arith, length-drop len bytes, length-take len bytes)
 
-pub key_within : (before : Option Place) (table : ℕ) (bytes : List ℕ) → Within (length bytes) (key_at before table bytes)
+pub key_within : (before : Option TableKey) (table : ℕ) (bytes : List ℕ) → Within (length bytes) (key_at before table bytes)
 unfolding key_at
 key_within before table bytes =
     Within-then (length bytes) (number_at w16 bytes) _ (number_within w16 bytes) (λ len le.
     Within-then (length bytes) (image_at len.0 len.1) _ (Within-more (length len.1) (length bytes) (image_at len.0 len.1) le (image_within len.0 len.1)) (λ key less.
-    let above : Within (length bytes) (cond (is_above before (table, key.0)) (Ok key) (Err (length len.1))) =
-    Within-test (length bytes) (is_above before (table, key.0)) (Ok key) (Err (length len.1)) less le in
-    Within-test (length bytes) (is_key key.0) (cond (is_above before (table, key.0)) (Ok key) (Err (length len.1))) (Err (length bytes)) above (omega arith)))
+    let above : Within (length bytes) (cond (is_above before (record { table = table; key = key.0 })) (Ok key) (Err (length len.1))) =
+    Within-test (length bytes) (is_above before (record { table = table; key = key.0 })) (Ok key) (Err (length len.1)) less le in
+    Within-test (length bytes) (is_key key.0) (cond (is_above before (record { table = table; key = key.0 })) (Ok key) (Err (length len.1))) (Err (length bytes)) above (omega arith)))
 
 row_within : (key_width : ℕ) (bytes : List ℕ) → Within (length bytes) (row_at key_width bytes)
 unfolding row_at
@@ -124,7 +125,7 @@ change_within key_width (suc zero ∷ bytes) =
     Within-then (suc (length bytes)) (row_at key_width bytes) _ (Within-more (length bytes) (suc (length bytes)) (row_at key_width bytes) (omega arith) (row_within key_width bytes)) (λ row le. le)
 change_within key_width (suc (suc flag) ∷ bytes) = omega arith
 
-write_within : (before : Option Place) (bytes : List ℕ) → Within (length bytes) (write_at before bytes)
+write_within : (before : Option TableKey) (bytes : List ℕ) → Within (length bytes) (write_at before bytes)
 unfolding write_at
 write_within before bytes =
     Within-then (length bytes) (number_at w32 bytes) _ (number_within w32 bytes) (λ bank le.
@@ -132,12 +133,12 @@ write_within before bytes =
     Within-then (length bytes) (key_at before table.0 table.1) _ (Within-more (length table.1) (length bytes) (key_at before table.0 table.1) le (key_within before table.0 table.1)) (λ key le.
     Within-then (length bytes) (change_at (width_of_all key.0) key.1) _ (Within-more (length key.1) (length bytes) (change_at (width_of_all key.0) key.1) le (change_within (width_of_all key.0) key.1)) (λ change le. le))))
 
-writes_within : (before : Option Place) (count : ℕ) (bytes : List ℕ) → Within (length bytes) (writes_at before count bytes)
+writes_within : (before : Option TableKey) (count : ℕ) (bytes : List ℕ) → Within (length bytes) (writes_at before count bytes)
 unfolding writes_at
 writes_within before zero bytes = omega arith
 writes_within before (suc count) bytes =
     Within-then (length bytes) (write_at before bytes) _ (write_within before bytes) (λ first le.
-    Within-then (length bytes) (writes_at (Some (place_of first.0)) count first.1) _ (Within-more (length first.1) (length bytes) (writes_at (Some (place_of first.0)) count first.1) le (writes_within (Some (place_of first.0)) count first.1)) (λ others le. le))
+    Within-then (length bytes) (writes_at (Some (table_key_of first.0)) count first.1) _ (Within-more (length first.1) (length bytes) (writes_at (Some (table_key_of first.0)) count first.1) le (writes_within (Some (table_key_of first.0)) count first.1)) (λ others le. le))
 
 between_within : (low high : ℕ) (w : Width) (bytes : List ℕ) → Within (length bytes) (number_between low high w bytes)
 unfolding number_between

@@ -8,7 +8,8 @@ use Rattle.std.proofs.lemmas.List.Elements.{All-from_recursion, recursion_from_A
 use Rattle.odb_values.specs.declared.value.Value.{Value}
 use Rattle.odb_values.specs.Key.{width_of_all}
 use Rattle.odb_model.specs.declared.write.Write.{Write}
-use Rattle.odb_model.specs.State.{Place, place_of}
+use Rattle.odb_model.specs.declared.table_key.TableKey.{TableKey}
+use Rattle.odb_model.specs.State.{table_key_of}
 use Rattle.odb_codec.specs.Image.{counted, values_image, change_image, write_image, IsTyped, AreTyped, IsTypedWrite}
 use Rattle.odb_model.specs.Width.{width_of_write}
 use Rattle.odb_codec.specs.Reading.{◌>>=◌, number_at, is_above, key_at, change_at, write_at, writes_at}
@@ -26,13 +27,13 @@ row_by_recursion None h = tt
 row_by_recursion (Some row) h = recursion_from_All IsTyped row h
 
 -- what a write is that was read
-pub record IsWriteRead (before : Option Place) (bytes : List ℕ) (w : Write) (rest : List ℕ) : Type 0 where
+pub record IsWriteRead (before : Option TableKey) (bytes : List ℕ) (w : Write) (rest : List ℕ) : Type 0 where
   pub takes : Takes bytes (write_image w) rest
   pub typed : IsTypedWrite w
   pub narrow : width_of_write w ≤ 1006
-  pub above : is_above before (place_of w) ≡ true
+  pub above : is_above before (table_key_of w) ≡ true
 
-pub write_takes : (before : Option Place) (bytes : List ℕ) (x : Write × List ℕ) → IsBytes bytes → write_at before bytes ≡ Ok x → IsWriteRead before bytes x.0 x.1
+pub write_takes : (before : Option TableKey) (bytes : List ℕ) (x : Write × List ℕ) → IsBytes bytes → write_at before bytes ≡ Ok x → IsWriteRead before bytes x.0 x.1
 unfolding write_at write_image
 write_takes before bytes x fits e =
     let a = bind_ok (number_at w32 bytes) (λ bank. number_at w32 bank.1 >>= λ table. key_at before table.0 table.1 >>= λ key. change_at (width_of_all key.0) key.1 >>= λ change. Ok (record { bank = bank.0; table = table.0; key = key.0; row = change.0 }, change.1)) x e in
@@ -57,7 +58,7 @@ write_takes before bytes x fits e =
 regrouped : (b t k c rest : List ℕ) → (b ++ t ++ k ++ c) ++ rest ≡ b ++ (t ++ (k ++ (c ++ rest)))
 regrouped b t k c rest = simp append_assoc
 
-pub write_again : (before : Option Place) (w : Write) (rest : List ℕ) → IsTypedWrite w → width_of_write w ≤ 1006 → is_above before (place_of w) ≡ true → write_at before (write_image w ++ rest) ≡ Ok (w, rest)
+pub write_again : (before : Option TableKey) (w : Write) (rest : List ℕ) → IsTypedWrite w → width_of_write w ≤ 1006 → is_above before (table_key_of w) ≡ true → write_at before (write_image w ++ rest) ≡ Ok (w, rest)
 unfolding write_at write_image
 write_again before w rest typed narrow above =
     let b = to_be_bytes w32 w.bank in
@@ -73,23 +74,23 @@ write_again before w rest typed narrow above =
     ) refl
 
 -- what writes are that were read
-pub record AreWritesRead (before : Option Place) (bytes : List ℕ) (count : ℕ) (ws : List Write) (rest : List ℕ) : Type 0 where
+pub record AreWritesRead (before : Option TableKey) (bytes : List ℕ) (count : ℕ) (ws : List Write) (rest : List ℕ) : Type 0 where
   pub takes : Takes bytes (flat_map write_image ws) rest
   pub all : length ws ≡ count
   pub typed : AllByRecursion IsTypedWrite ws
   pub narrow : AllByRecursion (λ w. width_of_write w ≤ 1006) ws
   pub ascend : AscendFrom before ws
 
-pub writes_take : (before : Option Place) (count : ℕ) (bytes : List ℕ) (x : List Write × List ℕ) → IsBytes bytes → writes_at before count bytes ≡ Ok x → AreWritesRead before bytes count x.0 x.1
+pub writes_take : (before : Option TableKey) (count : ℕ) (bytes : List ℕ) (x : List Write × List ℕ) → IsBytes bytes → writes_at before count bytes ≡ Ok x → AreWritesRead before bytes count x.0 x.1
 unfolding writes_at
 writes_take before zero bytes x fits e =
     subst (λ (y : List Write × List ℕ). AreWritesRead before bytes 0 y.0 y.1) (ok_is ([], bytes) x e)
     (record { takes = record { parts = refl; rest_fits = fits }; all = refl; typed = tt; narrow = tt; ascend = tt })
 writes_take before (suc count) bytes x fits e =
-    let a = bind_ok (write_at before bytes) (λ first. writes_at (Some (place_of first.0)) count first.1 >>= λ others. Ok (first.0 ∷ others.0, others.1)) x e in
-    let b = bind_ok (writes_at (Some (place_of a.0.0)) count a.0.1) (λ others. Ok (a.0.0 ∷ others.0, others.1)) x a.2 in
+    let a = bind_ok (write_at before bytes) (λ first. writes_at (Some (table_key_of first.0)) count first.1 >>= λ others. Ok (first.0 ∷ others.0, others.1)) x e in
+    let b = bind_ok (writes_at (Some (table_key_of a.0.0)) count a.0.1) (λ others. Ok (a.0.0 ∷ others.0, others.1)) x a.2 in
     let first = write_takes before bytes a.0 fits a.1 in
-    let others = writes_take (Some (place_of a.0.0)) count a.0.1 b.0 first.takes.rest_fits b.1 in
+    let others = writes_take (Some (table_key_of a.0.0)) count a.0.1 b.0 first.takes.rest_fits b.1 in
     let both = Takes-then bytes (write_image a.0.0) a.0.1 (flat_map write_image b.0.0) b.0.1 first.takes others.takes in
     let made : List Write × List ℕ = (a.0.0 ∷ b.0.0, b.0.1) in
     subst (λ (y : List Write × List ℕ). AreWritesRead before bytes (suc count) y.0 y.1) {x = made} (ok_is made x b.2) (record {
@@ -100,10 +101,10 @@ writes_take before (suc count) bytes x fits e =
       ascend = (first.above, others.ascend);
     })
 
-pub writes_again : (before : Option Place) (ws : List Write) (rest : List ℕ) → AllByRecursion IsTypedWrite ws → AllByRecursion (λ w. width_of_write w ≤ 1006) ws → AscendFrom before ws → writes_at before (length ws) (flat_map write_image ws ++ rest) ≡ Ok (ws, rest)
+pub writes_again : (before : Option TableKey) (ws : List Write) (rest : List ℕ) → AllByRecursion IsTypedWrite ws → AllByRecursion (λ w. width_of_write w ≤ 1006) ws → AscendFrom before ws → writes_at before (length ws) (flat_map write_image ws ++ rest) ≡ Ok (ws, rest)
 unfolding writes_at
 writes_again before [] rest typed narrow ascend = refl
 writes_again before (w ∷ ws) rest typed narrow ascend =
     let parts : flat_map write_image (w ∷ ws) ++ rest ≡ write_image w ++ (flat_map write_image ws ++ rest) = ap (λ (x : List ℕ). x ++ rest) (flat_map-cons write_image w ws) ∙ append_assoc (write_image w) (flat_map write_image ws) rest in
     ap (writes_at before (suc (length ws))) parts
-    ∙ rw (write_again before w (flat_map write_image ws ++ rest) typed.0 narrow.0 ascend.0, writes_again (Some (place_of w)) ws rest typed.1 narrow.1 ascend.1) refl
+    ∙ rw (write_again before w (flat_map write_image ws ++ rest) typed.0 narrow.0 ascend.0, writes_again (Some (table_key_of w)) ws rest typed.1 narrow.1 ascend.1) refl

@@ -1,6 +1,6 @@
--- Images: the one list of bytes that a value, a key, a row, a write or an entry is where it is stored, and what has one.
--- All numbers in an image are big-endian.
-use Rattle.std.specs.Prelude.{ℕ, ◌^◌, ◌<◌, ◌≤◌, List, [], ◌∷◌, ◌++◌, length, Option, Some, None, IfSome, FitsSigned}
+-- Images: the one list of bytes that a value, a key, a row, a write or an entry is where it is
+-- stored, and what has one. All numbers in an image are big-endian.
+use Rattle.std.specs.Prelude.{◌≡◌, ℕ, ◌^◌, ◌<◌, ◌≤◌, List, [], ◌∷◌, ◌++◌, length, Option, Some, None, IfSome, FitsSigned}
 use Rattle.std.specs.Int.{w16, w32, w64, to_be_bytes, cast_unsigned}
 use Rattle.std.specs.List.{All, flat_map}
 use Rattle.std.specs.List.Sorted.{IsStrictlySortedBy}
@@ -11,16 +11,16 @@ use Rattle.odb_values.specs.Key.{IsKey, width_of_all}
 use Rattle.odb_model.specs.declared.write.Write.{Write}
 use Rattle.odb_model.specs.declared.entry.Entry.{Entry}
 use Rattle.odb_model.specs.Script.{IsSession}
-use Rattle.odb_model.specs.State.{place_cmp}
-use Rattle.odb_model.specs.Transaction.{places}
+use Rattle.odb_model.specs.State.{table_key_cmp}
+use Rattle.odb_model.specs.Transaction.{table_keys}
 use Rattle.odb_model.specs.Width.{width_of_write}
 
 -- a length in 2 bytes, and that many bytes
 unfoldable pub counted : List ℕ → List ℕ
 counted bytes = to_be_bytes w16 (length bytes) ++ bytes
 
--- a byte for the kind (0 Null, 1 a number, 2 a text), then the 8 bytes of the number in two's complement, or the
--- length of the text and its bytes
+-- a byte for the kind (0 Null, 1 a number, 2 a text), then the 8 bytes of the number in two's
+-- complement, or the length of the text and its bytes
 unfoldable pub value_image : Value → List ℕ
 value_image Null = 0 ∷ []
 value_image (Int n) = 1 ∷ to_be_bytes w64 (cast_unsigned w64 n)
@@ -35,16 +35,20 @@ unfoldable pub change_image : Option (List Value) → List ℕ
 change_image None = 0 ∷ []
 change_image (Some row) = 1 ∷ counted (values_image row)
 
--- 4 bytes of the databank's number, 4 of the table's, the key behind its length, and what is done to it
+-- 4 bytes of the databank's number, 4 of the table's, the key behind its length, and what is done
+-- to it
 unfoldable pub write_image : Write → List ℕ
-write_image w = to_be_bytes w32 w.bank ++ to_be_bytes w32 w.table ++ counted (values_image w.key) ++ change_image w.row
+write_image w =
+    to_be_bytes w32 w.bank ++ to_be_bytes w32 w.table ++ counted (values_image w.key)
+    ++ change_image w.row
 
--- a byte of the session that committed, 2 bytes of the count of writes, and the writes; the number isn't in it
+-- a byte of the session that committed, 2 bytes of the count of writes, and the writes; the number
+-- isn't in it
 unfoldable pub entry_image : Entry → List ℕ
 entry_image e = (e.by ∷ []) ++ to_be_bytes w16 (length e.writes) ++ flat_map write_image e.writes
 
--- What the types of a program say of a value, and so the caller of no function has to show: an Int has 64 bits, a Text
--- is a text
+-- What the types of a program say of a value, and so the caller of no function has to show: an Int
+-- has 64 bits, a Text is a text
 abbrev pub IsTyped : Value → Type 0
 IsTyped Null = Unit {0}
 IsTyped (Int n) = FitsSigned w64 n
@@ -53,7 +57,8 @@ IsTyped (Text t) = IsText t
 abbrev pub AreTyped : List Value → Type 0
 AreTyped values = All IsTyped values
 
--- what the types say of a write: both numbers have 32 bits, the key is one, and all values are typed
+-- what the types say of a write: both numbers have 32 bits, the key is one, and all values are
+-- typed
 pub record IsTypedWrite (w : Write) : Type 0 where
   pub bank : w.bank < 2 ^ 32
   pub table : w.table < 2 ^ 32
@@ -71,16 +76,25 @@ pub record RowHasImage (values : List Value) : Type 0 where
   pub narrow : width_of_all values ≤ 1006
   pub typed : AreTyped values
 
--- What an entry has to meet beside its types: a session from 1 to 64; 1 to 4,096 writes, each to a place, a table and
--- a key of it, above those of the writes before it; and each with a key and a row of at most 1,006 bytes together
+-- What an entry has to meet beside its types: a session from 1 to 64; 1 to 4,096 writes, each to a
+-- place, a table and a key of it, above those of the writes before it; and each with a key and a
+-- row of at most 1,006 bytes together
 pub record IsStorable (e : Entry) : Type 0 where
   pub by : IsSession e.by
   pub some : 0 < length e.writes
   pub few : length e.writes ≤ 4096
-  pub ascending : IsStrictlySortedBy place_cmp (places e.writes)
+  pub ascending : IsStrictlySortedBy table_key_cmp (table_keys e.writes)
   pub narrow : All (λ w. width_of_write w ≤ 1006) e.writes
+
+-- the entry by another number
+abbrev pub numbered : ℕ → Entry → Entry
+numbered number e = record e { number = number }
 
 -- An entry has an image where it is storable; its number may be any
 pub record HasImage (e : Entry) : Type 0 where
   pub storable : IsStorable e
   pub typed : All IsTypedWrite e.writes
+
+-- the bytes are the image of the entry, which has this number
+abbrev pub IsEntryImage : ℕ → List ℕ → Entry → Type 0
+IsEntryImage number bytes e = (e.number ≡ number) × HasImage e × (bytes ≡ entry_image e)

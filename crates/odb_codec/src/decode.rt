@@ -1,9 +1,10 @@
-ghost use Rattle.std.specs.Prelude.{◌≡◌, ℕ, ◌-◌, ◌≤◌, List, length, IfOk, MatchResult, Err};
+//! Entries, keys and rows from their images.
+ghost use Rattle.std.specs.Prelude.{◌≡◌, ℕ, ◌-◌, ◌≤◌, List, length, IfOk, Err};
 ghost use Rattle.odb_values.specs.declared.value.Value.{Value};
 ghost use Rattle.odb_model.specs.declared.entry.Entry.{Entry};
-ghost use Rattle.odb_codec.specs.Image.{HasImage, KeyHasImage, RowHasImage, entry_image, values_image};
+ghost use Rattle.odb_codec.specs.Image.{HasImage, KeyHasImage, RowHasImage, IsEntryImage, entry_image, numbered, values_image};
 ghost use Rattle.odb_codec.specs.Reading.{IsFirstFault, read_entry, read_key, read_row};
-ghost use Rattle.odb_codec.specs.Reader.{Gives};
+ghost use Rattle.odb_codec.specs.Reader.{Gives, GivesOrNoMemory};
 
 use crate::CodecError;
 use crate::fault::ReadError;
@@ -17,13 +18,13 @@ use std::alloc::Global;
 /// The entry of this number that all of the bytes are the image of.
 ///
 /// Malformed comes exactly where they are no image of an entry, with the place of the first field
-/// that is at fault; docs/FORMATS.md has the fields. It costs one pass, up to that place, and memory
-/// for the writes as they are read: bytes that spell no entry take no more than a fixed number of
-/// bytes for each of theirs.
+/// that is at fault; docs/FORMATS.md has the fields. It costs one pass, up to that place, and
+/// memory for the writes as they are read: bytes that spell no entry take no more than a fixed
+/// number of bytes for each of theirs.
 pub fn decode_entry(alloc: Global, number: u64, bytes: &[u8]) -> Result<Entry, CodecError>
-    ensures found { IfOk result (λ e. (e.number ≡ number) × HasImage e × (bytes.now ≡ entry_image e)) }
+    ensures found { IfOk result (IsEntryImage number bytes.now) }
     ensures only { (e : Entry) → HasImage e → bytes.now ≡ entry_image e →
-        MatchResult result (λ found. found ≡ record e { number = number }) (λ error. error ≡ CodecError.NoMemory) }
+        GivesOrNoMemory result (numbered number e) }
     ensures malformed { (at : ℕ) → result ≡ Err (CodecError.Malformed at) →
         IsFirstFault (read_entry number bytes.now) bytes.now at }
 {
@@ -37,12 +38,12 @@ pub fn decode_entry(alloc: Global, number: u64, bytes: &[u8]) -> Result<Entry, C
 /// The key that all of the bytes are the image of.
 ///
 /// Malformed comes exactly where they are no image of a key: at the first byte of the value that is
-/// at fault, or at 0 where all values are whole and are no key. It costs one pass and memory for the
-/// values.
+/// at fault, or at 0 where all values are whole and are no key. It costs one pass and memory for
+/// the values.
 pub fn decode_key(alloc: Global, bytes: &[u8]) -> Result<Key, CodecError>
     ensures found { IfOk result (λ key. KeyHasImage key × (bytes.now ≡ values_image key)) }
     ensures only { (key : List Value) → KeyHasImage key → bytes.now ≡ values_image key →
-        MatchResult result (λ found. found ≡ key) (λ error. error ≡ CodecError.NoMemory) }
+        GivesOrNoMemory result key }
     ensures malformed { (at : ℕ) → result ≡ Err (CodecError.Malformed at) →
         IsFirstFault (read_key bytes.now) bytes.now at }
 {
@@ -61,7 +62,7 @@ pub fn decode_key(alloc: Global, bytes: &[u8]) -> Result<Key, CodecError>
 pub fn decode_row(alloc: Global, bytes: &[u8]) -> Result<Row, CodecError>
     ensures found { IfOk result (λ row. RowHasImage row × (bytes.now ≡ values_image row)) }
     ensures only { (row : List Value) → RowHasImage row → bytes.now ≡ values_image row →
-        MatchResult result (λ found. found ≡ row) (λ error. error ≡ CodecError.NoMemory) }
+        GivesOrNoMemory result row }
     ensures malformed { (at : ℕ) → result ≡ Err (CodecError.Malformed at) →
         IsFirstFault (read_row bytes.now) bytes.now at }
 {

@@ -1,3 +1,4 @@
+//! The images of entries, keys and rows.
 ghost use Rattle.std.specs.Prelude.{◌≡◌, ◌≤◌, length, IfErr, IfOk, OnOk};
 ghost use Rattle.odb_values.specs.Key.{width_of_all};
 ghost use Rattle.odb_codec.specs.Image.{IsStorable, HasImage, KeyHasImage, RowHasImage, AreTyped, entry_image, values_image};

@@ -1,3 +1,4 @@
+//! Why bytes give no value, or a value no bytes.
 ghost use Rattle.std.specs.Prelude.{◌≡◌};
 ghost use Rattle.odb_codec.specs.declared.error.CodecError.TheVariants.{NoMemory};
 

@@ -1,3 +1,4 @@
+//! Why a reader gives nothing.
 ghost use Rattle.std.specs.Prelude.{◌≡◌};
 ghost use Rattle.odb_codec.specs.declared.fault.ReadError.TheVariants.{Memory};
 

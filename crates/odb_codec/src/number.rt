@@ -1,3 +1,4 @@
+//! Numbers from the front of some bytes.
 ghost use Rattle.std.specs.Prelude.{◌≡◌};
 ghost use Rattle.std.specs.Int.{w8, w16, w32, w64};
 ghost use Rattle.odb_codec.specs.Reading.{number_at, number_between};

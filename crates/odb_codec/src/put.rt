@@ -1,8 +1,10 @@
-ghost use Rattle.std.specs.Prelude.{◌≡◌, ℕ, ◌+◌, ◌≤◌, ◌++◌, length, OnOk};
+//! Images, put behind what is there.
+ghost use Rattle.std.specs.Prelude.{◌≡◌, ◌+◌, ◌≤◌, length, OnOk};
 ghost use Rattle.std.specs.Int.{w16, w32, w64, to_be_bytes, cast_unsigned};
 ghost use Rattle.std.specs.List.{All, flat_map};
 ghost use Rattle.odb_values.specs.Key.{width_of_all};
 ghost use Rattle.odb_codec.specs.Image.{IsTyped, AreTyped, IsTypedWrite, counted, value_image, values_image, write_image};
+ghost use Rattle.odb_codec.specs.Written.{Puts};
 ghost use Rattle.odb_model.specs.Width.{width_of_write};
 
 use byteorder::{BigEndian, WriteBytesExt};
@@ -41,7 +43,7 @@ fn len_of_write(write: &Write) -> usize
 /// Puts the image of a write behind what is there. The error is want of memory.
 pub(crate) fn put_write(out: &mut Vec<u8>, write: &Write) -> Result<(), AllocError>
     requires { width_of_write write.now ≤ 1006 }
-    ensures image { OnOk result (out.new.items ≡ out.old.items ++ write_image write.now) }
+    ensures image { Puts result out.old.items out.new.items (write_image write.now) }
     ensures typed { OnOk result (IsTypedWrite write.now) }
 {
     put_u32(out, write.bank)?;
@@ -60,7 +62,7 @@ pub(crate) fn put_write(out: &mut Vec<u8>, write: &Write) -> Result<(), AllocErr
 /// Puts a length in 2 bytes, and the images of values.
 fn put_counted(out: &mut Vec<u8>, values: &[Value]) -> Result<(), AllocError>
     requires { width_of_all values.now ≤ 1006 }
-    ensures image { OnOk result (out.new.items ≡ out.old.items ++ counted (values_image values.now)) }
+    ensures image { Puts result out.old.items out.new.items (counted (values_image values.now)) }
     ensures typed { OnOk result (AreTyped values.now) }
 {
     put_u16(out, width_of_all(values) as u16)?;
@@ -69,7 +71,7 @@ fn put_counted(out: &mut Vec<u8>, values: &[Value]) -> Result<(), AllocError>
 
 /// Puts the images of values, one after another.
 pub(crate) fn put_values(out: &mut Vec<u8>, values: &[Value]) -> Result<(), AllocError>
-    ensures image { OnOk result (out.new.items ≡ out.old.items ++ values_image values.now) }
+    ensures image { Puts result out.old.items out.new.items (values_image values.now) }
     ensures typed { OnOk result (AreTyped values.now) }
 {
     for value in values {
@@ -81,7 +83,7 @@ pub(crate) fn put_values(out: &mut Vec<u8>, values: &[Value]) -> Result<(), Allo
 /// Puts the image of a value.
 #[tactic(auto, unfolding(crate::specs::Image::value_image, crate::specs::Image::counted))]
 fn put_value(out: &mut Vec<u8>, value: &Value) -> Result<(), AllocError>
-    ensures image { OnOk result (out.new.items ≡ out.old.items ++ value_image value.now) }
+    ensures image { Puts result out.old.items out.new.items (value_image value.now) }
     ensures typed { OnOk result (IsTyped value.now) }
 {
     match value {
@@ -102,21 +104,21 @@ fn put_value(out: &mut Vec<u8>, value: &Value) -> Result<(), AllocError>
 
 /// Puts a number of 2 bytes.
 pub(crate) fn put_u16(out: &mut Vec<u8>, number: u16) -> Result<(), AllocError>
-    ensures { OnOk result (out.new.items ≡ out.old.items ++ to_be_bytes w16 number) }
+    ensures { Puts result out.old.items out.new.items (to_be_bytes w16 number) }
 {
     out.write_u16::<BigEndian>(number).map_err(|_| AllocError)
 }
 
 /// Puts a number of 4 bytes.
 fn put_u32(out: &mut Vec<u8>, number: u32) -> Result<(), AllocError>
-    ensures { OnOk result (out.new.items ≡ out.old.items ++ to_be_bytes w32 number) }
+    ensures { Puts result out.old.items out.new.items (to_be_bytes w32 number) }
 {
     out.write_u32::<BigEndian>(number).map_err(|_| AllocError)
 }
 
 /// Puts a number of 8 bytes in two's complement.
 fn put_i64(out: &mut Vec<u8>, number: i64) -> Result<(), AllocError>
-    ensures { OnOk result (out.new.items ≡ out.old.items ++ to_be_bytes w64 (cast_unsigned w64 number)) }
+    ensures { Puts result out.old.items out.new.items (to_be_bytes w64 (cast_unsigned w64 number)) }
 {
     out.write_i64::<BigEndian>(number).map_err(|_| AllocError)
 }

@@ -1,3 +1,4 @@
+//! Values from the front of some bytes.
 ghost use Rattle.std.specs.Prelude.{◌≡◌, IfOk, if◌then◌else◌};
 ghost use Rattle.odb_codec.specs.Reading.{is_text, text_at, behind_kind, value_at, values_in};
 ghost use Rattle.odb_codec.specs.Reader.{Gives};

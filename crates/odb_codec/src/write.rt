@@ -1,7 +1,7 @@
+//! Writes from the front of some bytes.
 ghost use Rattle.std.specs.Prelude.{◌≡◌, ◌≤◌, None, Some, if◌then◌else◌};
-ghost use Rattle.std.specs.Option.{option_map, option_copied};
-ghost use Rattle.odb_model.specs.State.{place_of};
-ghost use Rattle.odb_codec.specs.Reading.{image_at, is_key, is_above, key_at, row_at, change_at, write_at, writes_at};
+ghost use Rattle.std.specs.Option.{option_copied};
+ghost use Rattle.odb_codec.specs.Reading.{image_at, is_key, is_above, table_key_before, key_at, row_at, change_at, write_at, writes_at};
 ghost use Rattle.odb_codec.specs.Reader.{Gives};
 
 use crate::fault::ReadError;
@@ -30,7 +30,7 @@ fn image_at(alloc: Global, len: usize, bytes: &[u8]) -> Result<(Values, &[u8]), 
     }
 }
 
-/// The key that values are, or None where they are none. It takes no memory.
+/// The key that values are, or None where they are none.
 #[tactic(auto, unfolding(crate::specs::Reading::is_key))]
 pub(crate) fn key_of(values: Values) -> Option<Key>
     ensures { result ≡ (if is_key values then Some values else None) }
@@ -41,9 +41,10 @@ pub(crate) fn key_of(values: Values) -> Option<Key>
     Key::new(values).ok()
 }
 
-/// Whether a key of a table is above the place of the write before it, if there is one.
+/// Whether a key of a table is above that of the write before it, if there is one.
 fn is_above(before: Option<&Write>, table: u32, key: &Key) -> bool
-    ensures { result ≡ is_above (option_map place_of (option_copied before.entry)) (table, key.now) }
+    ensures { result ≡ is_above (table_key_before (option_copied before.entry))
+        (record { table = table; key = key.now }) }
 {
     match before {
         None => true,
@@ -55,7 +56,7 @@ fn is_above(before: Option<&Write>, table: u32, key: &Key) -> bool
     }
 }
 
-/// The key of a table behind its length, which has to be above the place of the write before it.
+/// The key of a table behind its length, which has to be above that of the write before it.
 #[tactic(auto, unfolding(crate::specs::Reading::key_at))]
 fn key_at<'a>(
     alloc: Global,
@@ -63,7 +64,8 @@ fn key_at<'a>(
     table: u32,
     bytes: &'a [u8],
 ) -> Result<(Key, &'a [u8]), ReadError>
-    ensures { Gives (λ x. (x.0, x.1.now)) result (key_at (option_map place_of (option_copied before.entry)) table bytes.now) }
+    ensures { Gives (λ x. (x.0, x.1.now)) result
+        (key_at (table_key_before (option_copied before.entry)) table bytes.now) }
 {
     let (len, image) = u16_at(bytes)?;
     let (values, rest) = image_at(alloc, usize::from(len), image)?;
@@ -119,7 +121,8 @@ fn write_at<'a>(
     before: Option<&Write>,
     bytes: &'a [u8],
 ) -> Result<(Write, &'a [u8]), ReadError>
-    ensures { Gives (λ x. (x.0, x.1.now)) result (write_at (option_map place_of (option_copied before.entry)) bytes.now) }
+    ensures { Gives (λ x. (x.0, x.1.now)) result
+        (write_at (table_key_before (option_copied before.entry)) bytes.now) }
 {
     let (bank, rest) = u32_at(bytes)?;
     let (table, rest) = u32_at(rest)?;
@@ -136,8 +139,8 @@ fn write_at<'a>(
     ))
 }
 
-/// So many writes, each to a place above that of the one before it, and the bytes behind them. Memory
-/// is taken for each write as it is read, and not by the count.
+/// So many writes, each to a place above that of the one before it, and the bytes behind them.
+/// Memory is taken for each write as it is read, and not by the count.
 pub(crate) fn writes_at(
     alloc: Global,
     count: u16,

@@ -2,7 +2,7 @@
 use Rattle.std.proofs.Common.{◌≡◌, ◌≢◌, inl, inr, ℕ, List, Option, Some, None, sym, ◌∙◌, subst, ap, refl, arith}
 use Rattle.std.specs.Prelude.{is_some, IsSome}
 use Rattle.std.proofs.lemmas.Bool.{false≢true, cases_lt, cases_eq}
-use Rattle.odb_device.specs.World.{File, Moment, Talk, World, present, file_of, IsTold}
+use Rattle.odb_device.specs.World.{File, Moment, Talk, World, present, file_of, IsObservable}
 use Rattle.odb_device.specs.Images.{IsImageOf, EachImage}
 use Rattle.odb_device.specs.Counts.{Grows}
 use Rattle.odb_device.specs.Console.{Talks, SaysNothing, AddsFront, SaysOnly}
@@ -14,8 +14,9 @@ pub image_has : (P : List ℕ → Type 0) (o : Option File) (image : List ℕ) �
 image_has P None image told each is = absurd (false≢true told)
 image_has P (Some f) image told each is = each image is
 
--- where one file's images have P at each moment and the others stay, Q holds of all files at each moment if it follows
-crash_of_run : (file : ℕ) (P : List ℕ → Type 0) (Q : Option (List ℕ) → (ℕ → List ℕ) → Type 0) (old new : World) → IsTold file old → Runs file (EachImage P) old new
+-- where one file's images have P at each moment and the others stay, Q holds of all files at each
+-- moment if it follows
+crash_of_run : (file : ℕ) (P : List ℕ → Type 0) (Q : Option (List ℕ) → (ℕ → List ℕ) → Type 0) (old new : World) → IsObservable file old → Runs file (EachImage P) old new
     → ((images : ℕ → List ℕ) → P (images file) → ((g : ℕ) → g ≢ file → IsImageOf (file_of g old) (images g)) → Q (present old).said images) → EachMoment (EachCrash Q) old new
 crash_of_run file P Q old new told run follows = λ k from to images are.
     let here : IsSome ((new.moment k).files file) = run.only.told k from to ∙ told in
@@ -23,7 +24,7 @@ crash_of_run file P Q old new told run follows = λ k from to images are.
     (follows images (image_has P _ (images file) here (run.each k from to) (are file)) (λ g other. subst (λ o. IsImageOf o (images g)) (run.only.others k g from to other) (are g)))
 
 -- a run on one file, as moments of the host
-pub passes_run : (file : ℕ) (P : List ℕ → Type 0) (Q : Option (List ℕ) → (ℕ → List ℕ) → Type 0) (old new : World) → IsTold file old → Runs file (EachImage P) old new
+pub passes_run : (file : ℕ) (P : List ℕ → Type 0) (Q : Option (List ℕ) → (ℕ → List ℕ) → Type 0) (old new : World) → IsObservable file old → Runs file (EachImage P) old new
     → ((images : ℕ → List ℕ) → P (images file) → ((g : ℕ) → g ≢ file → IsImageOf (file_of g old) (images g)) → Q (present old).said images) → Passes (EachCrash Q) old new
 passes_run file P Q old new told run follows = record {
   later = run.only.later;

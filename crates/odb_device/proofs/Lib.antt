@@ -5,3 +5,4 @@ pub mod OneCall
 pub mod Puts
 pub mod Talking
 pub mod Crash
+pub mod Zeroing

@@ -32,7 +32,8 @@ grows_same old new same = ([], same ∙ adds_none old)
 pub grows_then : (old mid new : Option (List ℕ)) → Grows old mid → Grows mid new → Grows old new
 grows_then old mid new a b = (a.0 ++ b.0, adds_then a.0 b.0 old mid new a.1 b.1)
 
--- what lies between two lists, of which the second adds a front of these bytes, adds a front of them too
+-- what lies between two lists, of which the second adds a front of these bytes, adds a front of
+-- them too
 pub front_between : (bytes : List ℕ) (n : ℕ) (old mid new : Option (List ℕ)) → Adds (take n bytes) old new → Grows old mid → Grows mid new → AddsFront bytes old mid
 front_between bytes n None mid new adds a b = (0, omega arith, a.1)
 front_between bytes n (Some s) mid new adds a b = (length a.0, omega (arith, ap length whole, length-append a.0 (b.0 ++ drop n bytes)), a.1 ∙ ap (λ (l : List ℕ). Some (s ++ l)) (sym front))

@@ -4,8 +4,9 @@ use Rattle.odb_device.specs.World.{File, World, present, file_of}
 use Rattle.odb_device.specs.Images.{Torn, part, written, torn, kept, reading}
 use Rattle.odb_device.specs.Counts.{Rose}
 
--- One call on a file: only this file and counts of faults may change, and each moment of the call is the one before it or the one after it.
--- A crash in its midst is no further case: a write cut off leaves an image of the file after it, and a sync cut off one from before.
+-- One call on a file: only this file and counts of faults may change, and each moment of the call
+-- is the one before it or the one after it. A crash in its midst is no further case: a write cut
+-- off leaves an image of the file after it, and a sync cut off one from before.
 pub record CallsOn (file : ℕ) (old new : World) : Type 0 where
   pub later : old.time ≤ new.time
   pub past : (k : ℕ) → k ≤ old.time → new.moment k ≡ old.moment k
@@ -32,9 +33,14 @@ Stays file old new = file_of file new ≡ file_of file old
 abbrev pub Writes : ℕ → ℕ → List ℕ → World → World → Type 0
 Writes file at bytes old new = file_of file new ≡ option_map (written at bytes) (file_of file old)
 
--- Nothing happened, or the n bytes from `at` on and those past the old end may be any: a read gives these of now, and a crash may leave others.
+-- Nothing happened, or the n bytes from `at` on and those past the old end may be any: a read gives
+-- these of now, and a crash may leave others.
 abbrev pub Tears : ℕ → ℕ → ℕ → World → World → Type 0
-Tears file at n old new = Stays file old new ⊎ ((now : List ℕ) × (file_of file new ≡ option_map (torn at n now) (file_of file old)) × IfSome (file_of file old) (λ f. Torn at n f.bytes now))
+Tears file at n old new =
+    Stays file old new
+    ⊎ ((now : List ℕ)
+    × (file_of file new ≡ option_map (torn at n now) (file_of file old))
+    × IfSome (file_of file old) (λ f. Torn at n f.bytes now))
 
 -- what a read gives is all that a crash leaves
 abbrev pub Keeps : ℕ → World → World → Type 0
@@ -42,16 +48,24 @@ Keeps file old new = file_of file new ≡ option_map kept (file_of file old)
 
 -- a crash leaves what it might have left before, and a read gives any of it
 abbrev pub Unsettles : ℕ → World → World → Type 0
-Unsettles file old new = (now : List ℕ) × (file_of file new ≡ option_map (reading now) (file_of file old))
+Unsettles file old new =
+    (now : List ℕ) × (file_of file new ≡ option_map (reading now) (file_of file old))
 
 -- the bytes are written and on the disk
 abbrev pub Puts : ℕ → ℕ → List ℕ → World → World → Type 0
-Puts file at bytes old new = file_of file new ≡ option_map (λ f. kept (written at bytes f)) (file_of file old)
+Puts file at bytes old new =
+    file_of file new ≡ option_map (λ f. kept (written at bytes f)) (file_of file old)
 
 -- the length of a told file
 abbrev pub HasLength : Option File → ℕ → Type 0
 HasLength file n = IfSome file (λ f. n ≡ length f.bytes)
 
--- the bytes of a told file from `at` on, to its end or that of `out`, stand at the front of out, and n counts them
+-- n bytes from `at` on, to the end of the list or of `out`, stand at the front of out
+abbrev pub HasCopied : List ℕ → ℕ → ℕ → List ℕ → Type 0
+HasCopied bytes at n out =
+    (n ≡ min (length out) (length bytes - at)) × (take n out ≡ part at n bytes)
+
+-- the bytes of a told file from `at` on, to its end or that of `out`, stand at the front of out,
+-- and n counts them
 abbrev pub HasRead : Option File → ℕ → ℕ → List ℕ → Type 0
-HasRead file at n out = IfSome file (λ f. (n ≡ min (length out) (length f.bytes - at)) × (take n out ≡ part at n f.bytes))
+HasRead file at n out = IfSome file (λ f. HasCopied f.bytes at n out)

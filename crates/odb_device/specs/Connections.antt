@@ -2,7 +2,8 @@
 use Rattle.std.specs.Prelude.{◌≡◌, ℕ, Bool, List, Option, Some, None}
 use Rattle.odb_device.specs.Counts.{Adds, Ends}
 
--- a link: the bytes received and sent, where they are told, whether 0 was answered to `receive`, and its count of faults
+-- a link: the bytes received and sent, where they are told, whether 0 was answered to `receive`,
+-- and its count of faults
 pub record Wire : Type 0 where
   pub received : Option (List ℕ)
   pub sent : Option (List ℕ)
@@ -40,7 +41,7 @@ pub record Front : Type 0 where
   pub stage : Stage
   pub faults : ℕ
 
--- how far a listener is after this answer of `accept`: None ends the listening, and no other answer does
+-- how far a listener is after this answer of `accept`: None alone ends the listening
 abbrev pub stage_after : {C : Type 0} → Option C → Stage
 stage_after None = Ended
 stage_after (Some connection) = Listening

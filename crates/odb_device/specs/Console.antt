@@ -1,15 +1,17 @@
 -- What calls of a console do.
 use Rattle.std.specs.Prelude.{◌≡◌, ℕ, ◌<◌, ◌≤◌, List, length, take, Option}
 use Rattle.odb_device.specs.World.{World, present, file_of}
-use Rattle.odb_device.specs.Counts.{Rose, Adds, Grows, Ends}
+use Rattle.odb_device.specs.Counts.{Rose, Adds, LiesBetween, Ends}
+use Rattle.odb_device.specs.Moments.{EachMoment}
 
--- From old to new only the console changes, in one call or in several. At each moment of it the files are as before,
--- and what is said by then lies between what was said before and what is said now: a crash may come while a piece is being said.
+-- From old to new only the console changes, in one call or in several. At each moment of it the
+-- files are as before, and what is said by then lies between what was said before and what is said
+-- now: a crash may come while a piece is being said.
 pub record Talks (old new : World) : Type 0 where
   pub later : old.time ≤ new.time
   pub past : (k : ℕ) → k ≤ old.time → new.moment k ≡ old.moment k
   pub files : (k g : ℕ) → old.time ≤ k → k ≤ new.time → (new.moment k).files g ≡ file_of g old
-  pub said : (k : ℕ) → old.time ≤ k → k ≤ new.time → Grows (present old).said (new.moment k).said × Grows (new.moment k).said (present new).said
+  pub said : EachMoment (λ m. LiesBetween (present old).said m.said (present new).said) old new
   pub faults : (g : ℕ) → new.faults g ≡ old.faults g
   pub take_faults : old.talk.take_faults ≤ new.talk.take_faults
   pub say_faults : old.talk.say_faults ≤ new.talk.say_faults
@@ -46,11 +48,12 @@ EndsInput n old new = Ends n old.talk.has_ended new.talk.has_ended
 abbrev pub AddsFront : List ℕ → Option (List ℕ) → Option (List ℕ) → Type 0
 AddsFront bytes before now = (n : ℕ) × (n ≤ length bytes) × Adds (take n bytes) before now
 
--- from old to new only the console changes, nothing is taken, and what is said by each moment of it is a front of these bytes
+-- from old to new only the console changes, nothing is taken, and what is said by each moment of it
+-- is a front of these bytes
 pub record SaysOnly (bytes : List ℕ) (old new : World) : Type 0 where
   pub talks : Talks old new
   pub input : TakesNothing old new
-  pub fronts : (k : ℕ) → old.time ≤ k → k ≤ new.time → AddsFront bytes (present old).said (new.moment k).said
+  pub fronts : EachMoment (λ m. AddsFront bytes (present old).said m.said) old new
 
 -- a front of these bytes, shorter than the whole, is said
 abbrev pub BreaksOff : List ℕ → World → World → Type 0

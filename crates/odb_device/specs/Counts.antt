@@ -13,6 +13,10 @@ Adds bytes before now = now ≡ option_map (λ b. b ++ bytes) before
 abbrev pub Grows : Option (List ℕ) → Option (List ℕ) → Type 0
 Grows before now = (more : List ℕ) × Adds more before now
 
+-- these bytes lie between those before and those now: they add to the first, and the last to them
+abbrev pub LiesBetween : Option (List ℕ) → Option (List ℕ) → Option (List ℕ) → Type 0
+LiesBetween before said now = Grows before said × Grows said now
+
 -- the end of the input is recorded where a call answered n = 0, and stays recorded
 abbrev pub Ends : ℕ → Bool → Bool → Type 0
 Ends n before now = now ≡ (n == 0 || before)

@@ -12,12 +12,14 @@ abbrev pub end_of : List (ℕ × ℕ) → ℕ → ℕ
 end_of [] n = n
 end_of (r ∷ ranges) n = max (r.0 + r.1) (end_of ranges n)
 
--- A crash may leave these bytes: those of the last sync, but for the ranges written since, by a write that succeeded or failed,
--- and for whatever lies past the synced end, up to the greatest end written since.
+-- A crash may leave these bytes: those of the last sync, but for the ranges written since, by a
+-- write that succeeded or failed, and for whatever lies past the synced end, up to the greatest end
+-- written since.
 pub record IsImage (file : File) (image : List ℕ) : Type 0 where
   pub no_shorter : length file.synced ≤ length image
   pub no_longer : length image ≤ end_of file.ranges (length file.synced)
-  pub outside : (i : ℕ) → i < length file.synced → IsOutside file.ranges i → slice_index image i ≡ slice_index file.synced i
+  pub outside : (i : ℕ) → i < length file.synced → IsOutside file.ranges i
+      → slice_index image i ≡ slice_index file.synced i
 
 -- an image of a told file; of one that isn't told, any bytes
 abbrev pub IsImageOf : Option File → List ℕ → Type 0
@@ -39,12 +41,14 @@ IsKept file = IfSome file (λ f. (f.synced ≡ f.bytes) × (f.ranges ≡ []))
 pub record Torn (at n : ℕ) (old new : List ℕ) : Type 0 where
   pub no_shorter : length old ≤ length new
   pub no_longer : length new ≤ max (length old) (at + n)
-  pub outside : (i : ℕ) → i < length old → (i < at) ⊎ (at + n ≤ i) → slice_index new i ≡ slice_index old i
+  pub outside : (i : ℕ) → i < length old → (i < at) ⊎ (at + n ≤ i)
+      → slice_index new i ≡ slice_index old i
 
 -- each image is one from before, but for n bytes from `at` on
 abbrev pub TornFrom : ℕ → ℕ → Option File → Option File → Type 0
 TornFrom at n None new = new ≡ None
-TornFrom at n (Some old) new = EachImage (λ image. (before : List ℕ) × IsImage old before × Torn at n before image) new
+TornFrom at n (Some old) new =
+    EachImage (λ image. (before : List ℕ) × IsImage old before × Torn at n before image) new
 
 -- the n bytes from `at` on, as far as there are so many
 abbrev pub part : ℕ → ℕ → List ℕ → List ℕ
@@ -52,11 +56,16 @@ part at n bytes = take n (drop at bytes)
 
 -- old with these bytes at `at`, and zeros in a gap before them
 unfoldable pub overwritten : ℕ → List ℕ → List ℕ → List ℕ
-overwritten at bytes old = take at (old ++ replicate (at - length old) 0) ++ bytes ++ drop (at + length bytes) old
+overwritten at bytes old =
+    take at (old ++ replicate (at - length old) 0) ++ bytes ++ drop (at + length bytes) old
 
 -- after a write
 abbrev pub written : ℕ → List ℕ → File → File
-written at bytes file = record { bytes = overwritten at bytes file.bytes; synced = file.synced; ranges = (at, length bytes) ∷ file.ranges }
+written at bytes file = record {
+  bytes = overwritten at bytes file.bytes;
+  synced = file.synced;
+  ranges = (at, length bytes) ∷ file.ranges;
+}
 
 -- after a write of n bytes that failed, when a read gives these bytes
 abbrev pub torn : ℕ → ℕ → List ℕ → File → File

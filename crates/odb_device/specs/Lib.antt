@@ -6,3 +6,4 @@ pub mod Console
 pub mod Connections
 pub mod Moments
 pub mod Laws
+pub mod Zeros

@@ -1,7 +1,9 @@
--- What a host shows to proofs: its files as they are and as a crash may leave them, at each moment so far.
+-- What a host shows to proofs: its files as they are and as a crash may leave them, at each moment
+-- so far.
 use Rattle.std.specs.Prelude.{ℕ, Bool, List, [], Option, IsSome}
 
--- a file: the bytes that a read gives, those that the last sync left, and the ranges (first byte, length) written since, newest first
+-- a file: the bytes that a read gives, those that the last sync left, and the ranges (first byte,
+-- length) written since, newest first
 pub record File : Type 0 where
   pub bytes : List ℕ
   pub synced : List ℕ
@@ -11,12 +13,14 @@ pub record File : Type 0 where
 abbrev pub empty_file : File
 empty_file = record { bytes = []; synced = []; ranges = [] }
 
--- the files that are told, each as it was at one moment, and the bytes said by then, where they are told
+-- the files that are told, each as it was at one moment, and the bytes said by then, where they are
+-- told
 pub record Moment : Type 0 where
   pub files : ℕ → Option File
   pub said : Option (List ℕ)
 
--- the console: the bytes taken, where they are told, whether 0 was answered to `take`, and the counts of faults
+-- the console: the bytes taken, where they are told, whether 0 was answered to `take`, and the
+-- counts of faults
 pub record Talk : Type 0 where
   pub taken : Option (List ℕ)
   pub has_ended : Bool
@@ -30,8 +34,8 @@ pub record World : Type 0 where
   pub faults : ℕ → ℕ
   pub talk : Talk
 
--- The present is the moment `time`. So what is said of each moment since some time counts now too, and since now there is
--- no other moment: Laws.antt has both, for every world.
+-- The present is the moment `time`. So what is said of each moment since some time counts now too,
+-- and since now there is no other moment: Laws.antt has both, for every world.
 abbrev pub present : World → Moment
 present w = w.moment w.time
 
@@ -40,5 +44,5 @@ abbrev pub file_of : ℕ → World → Option File
 file_of file w = (present w).files file
 
 -- the store tells the file
-abbrev pub IsTold : ℕ → World → Type 0
-IsTold file w = IsSome (file_of file w)
+abbrev pub IsObservable : ℕ → World → Type 0
+IsObservable file w = IsSome (file_of file w)

@@ -1,4 +1,4 @@
-// A link and a listener, each call in the words of specs/.
+//! A link and a listener, each call in the words of specs/.
 ghost use Rattle.std.specs.Prelude.{◌≡◌, ◌<◌, ◌≤◌, ℕ, length, take, IfOk, OnOk, OnErr};
 ghost use Rattle.odb_device.specs.Counts.{Rose};
 ghost use Rattle.odb_device.specs.Connections.{Wire, Receives, ReceivesNothing, EndsReceiving, Sends, SendsNothing, Front, stage_after};
@@ -11,7 +11,8 @@ pub trait Link {
     /// The bytes received and sent, whether the input has ended, and the count of faults.
     ghost wire: { Self → Wire };
 
-    /// Receives the next bytes, at most as many as `out` holds, and answers how many; 0 at the end of the input.
+    /// Receives the next bytes, at most as many as `out` holds, and answers how many; 0 at the end
+    /// of the input.
     ///
     /// What `out` holds behind them, and after `Failed`, isn't said.
     fn receive(&mut self, out: &mut [u8]) -> Result<usize, Failed>
@@ -19,12 +20,14 @@ pub trait Link {
         ensures count { (wire self.old).faults ≤ (wire self.new).faults }
         ensures output { SendsNothing (wire self.old) (wire self.new) }
         ensures bound { IfOk result (λ n. n ≤ length out.new) }
-        ensures received { IfOk result (λ n. Receives (take n out.new) (wire self.old) (wire self.new)) }
+        ensures received { IfOk result
+            (λ n. Receives (take n out.new) (wire self.old) (wire self.new)) }
         ensures ended { IfOk result (λ n. EndsReceiving n (wire self.old) (wire self.new)) }
         ensures failed { OnErr result (ReceivesNothing (wire self.old) (wire self.new)) }
         ensures cause { OnErr result (Rose (wire self.old).faults (wire self.new).faults) };
 
-    /// Sends a front of the bytes, and answers how many, at least 1. A peer that takes nothing is a fault.
+    /// Sends a front of the bytes, and answers how many, at least 1. A peer that takes nothing is a
+    /// fault.
     fn send(&mut self, bytes: &[u8]) -> Result<usize, Failed>
         requires { 0 < length bytes.now }
         ensures count { (wire self.old).faults ≤ (wire self.new).faults }
@@ -43,7 +46,8 @@ pub trait Listener {
     /// How far the listener is, and its count of faults.
     ghost front: { Self → Front };
 
-    /// Begins to listen at a port of this machine. It is called before `accept`, and again only after `Failed`.
+    /// Begins to listen at a port of this machine. It is called before `accept`, and again only
+    /// after `Failed`.
     fn listen(&mut self, port: u16) -> Result<(), Failed>
         requires { (front self.old).stage ≡ Idle }
         ensures count { (front self.old).faults ≤ (front self.new).faults }

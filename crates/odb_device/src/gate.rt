@@ -1,4 +1,4 @@
-// Places at which a test may hold a step.
+//! Places at which a test may hold a step.
 
 /// A place that a step passes.
 #[derive(Clone, Copy, Debug, PartialEq, Eq)]

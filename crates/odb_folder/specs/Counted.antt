@@ -13,5 +13,10 @@ counted_world counts = record {
   time = 0;
   moment = λ _. record { files = λ _. None; said = None };
   faults = λ _. counts.file_faults;
-  talk = record { taken = None; has_ended = counts.has_ended; take_faults = counts.take_faults; say_faults = counts.say_faults };
+  talk = record {
+    taken = None;
+    has_ended = counts.has_ended;
+    take_faults = counts.take_faults;
+    say_faults = counts.say_faults;
+  };
 }

@@ -1,11 +1,12 @@
-// Counts of faults.
+//! Counts of faults.
 ghost use Rattle.std.specs.Prelude.{◌≡◌, ◌≤◌, Ok, IsOk, IfOk, OnErr};
 ghost use Rattle.odb_device.specs.Counts.{Rose};
 
 use odb_device::Failed;
 use std::io;
 
-/// How often each part failed so far, up to the end of the type, and whether the end of the input was met.
+/// How often each part failed so far, up to the end of the type, and whether the end of the input
+/// was met.
 #[derive(Clone, Copy, Debug)]
 pub(crate) struct Counts {
     pub(crate) file_faults: u64,
@@ -14,7 +15,8 @@ pub(crate) struct Counts {
     pub(crate) has_ended: bool,
 }
 
-/// What std answered. An error is counted as one more fault, where the type of the count has room for it.
+/// What std answered. An error is counted as one more fault, where the type of the count has room
+/// for it.
 pub(crate) fn counted<T>(answer: io::Result<T>, faults: &mut u64) -> Result<T, Failed>
     ensures ok { IfOk answer (λ value. result ≡ Ok value) }
     ensures ok_only { IfOk result (λ value. answer ≡ Ok value) }

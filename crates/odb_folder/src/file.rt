@@ -1,5 +1,5 @@
-// One open file, and what of it may not be on the disk.
-ghost use Rattle.std.specs.Prelude.{◌≡◌, ◌↔◌, ◌+◌, ◌-◌, ◌^◌, ◌≤◌, length, IfOk, IsErr, IsTrue, OnErr, OnOk};
+//! One open file, and what of it may not be on the disk.
+ghost use Rattle.std.specs.Prelude.{◌≡◌, ◌↔◌, ◌⊎◌, ◌+◌, ◌-◌, ◌^◌, ◌≤◌, length, IfOk, IsErr, IsTrue, OnErr, OnOk};
 
 use crate::streams::fill;
 use std::fs::OpenFile;
@@ -16,17 +16,20 @@ const PIECE: usize = 4096;
 
 /// An open file.
 ///
-/// **A sync that failed is no sync that comes later.** Where the system couldn't write a page, it may say so once, keep the
-/// page in its memory as if it were on the disk, and answer the next sync with success. So after a sync that failed this asks
-/// the system to forget what it keeps, and before the next one it writes again all that may be missing on the disk. What that
-/// sync then answers speaks of all the bytes that a read gives.
+/// **A sync that failed is no sync that comes later.** Where the system couldn't write a page, it
+/// may say so once, keep the page in its memory as if it were on the disk, and answer the next sync
+/// with success. So after a sync that failed this asks the system to forget what it keeps, and
+/// before the next one it writes again all that may be missing on the disk. What that sync then
+/// answers speaks of all the bytes that a read gives.
 #[derive(Drop)]
 pub(crate) struct SyncedFile<F> {
     file: F,
-    // What may not be on the disk are the bytes from the one place to before the other. Where there are none, `from` is the
-    // file's end: a write behind it also fills the gap.
+    // What may not be on the disk are the bytes from the one place to before the other.
     from: u64,
     to: u64,
+    // The file is at least as long: its length as it was settled, or the end of a later write that
+    // succeeded. A write behind it fills the gap with zeros, which may not be on the disk either.
+    end: u64,
     // Whether something was written since the last sync that succeeded.
     is_written: bool,
     // Whether the last sync failed.
@@ -42,9 +45,15 @@ impl<F: AsRawFd + FileExt + OpenFile + Drop> SyncedFile<F> {
             file,
             from: 0,
             to: u64::MAX,
+            end: 0,
             is_written: false,
             is_suspect: false,
         }
+    }
+
+    /// The open file itself.
+    pub(crate) fn open_file(&self) -> &F {
+        &self.file
     }
 
     /// The length in bytes.
@@ -61,57 +70,79 @@ impl<F: AsRawFd + FileExt + OpenFile + Drop> SyncedFile<F> {
         fill(&mut Reader { file, at }, &mut out[..room])
     }
 
-    /// Writes all of the bytes from the byte `at` on. The system fills a gap before them with zeros. Where there are no bytes,
-    /// the file is made as long as `at`.
+    /// Writes all of the bytes from the byte `at` on. The system fills a gap before them with
+    /// zeros. Where there are no bytes, the file is made as long as `at`.
     pub(crate) fn write_at(&mut self, at: u64, bytes: &[u8]) -> io::Result<()>
         requires { at + length bytes.now ≤ 2 ^ 40 }
         ensures noted { (self.new.from ≤ at) × (at + length bytes.now ≤ self.new.to) }
         ensures grown { (self.new.from ≤ self.old.from) × (self.old.to ≤ self.new.to) }
+        ensures gap { self.new.from ≤ self.old.end }
         ensures written { IsTrue self.new.is_written }
         ensures suspect { self.new.is_suspect ≡ self.old.is_suspect }
     {
+        let end = at + bytes.len() as u64;
         self.is_written = true;
-        self.from = self.from.min(at);
-        self.to = self.to.max(at + bytes.len() as u64);
+        self.from = self.from.min(at).min(self.end);
+        self.to = self.to.max(end);
         if !bytes.is_empty() {
-            return self.file.write_all_at(bytes, at);
-        }
-        if self.length()? < at {
+            self.file.write_all_at(bytes, at)?;
+        } else if self.length()? < at {
             self.file.set_len(at)?;
         }
+        self.end = self.end.max(end);
         Ok(())
     }
 
-    /// Puts the file on the disk, where something was written since the last sync or that one failed.
-    pub(crate) fn sync_if_needed(&mut self) -> io::Result<()>
-        ensures suspect { IsTrue self.new.is_suspect ↔ IsErr result }
-        ensures settled { OnOk result (¬ (IsTrue self.new.is_written)) }
+    /// Whether something was written since the last sync that succeeded, or the last sync failed.
+    pub(crate) fn needs_sync(&self) -> bool
+        ensures { IsTrue result ↔ (IsTrue self.now.is_written ⊎ IsTrue self.now.is_suspect) }
     {
-        if self.is_written || self.is_suspect {
-            return self.sync();
-        }
-        Ok(())
+        self.is_written || self.is_suspect
     }
 
-    /// Puts the file on the disk, so that the disk has what a read gives.
+    /// Puts the file on the disk, so that the disk has what a read gives. It is one call of the
+    /// system, where no sync failed before.
     pub(crate) fn sync(&mut self) -> io::Result<()>
         ensures suspect { IsTrue self.new.is_suspect ↔ IsErr result }
         ensures settled { OnOk result (¬ (IsTrue self.new.is_written)) }
-        ensures unsettled { OnErr result ((self.new.from ≡ self.old.from) × (self.new.to ≡ self.old.to)) }
+        ensures from { OnErr result (self.new.from ≡ self.old.from) }
+        ensures to { OnErr result (self.new.to ≡ self.old.to) }
     {
         if self.is_suspect {
             self.write_again()?;
         }
         self.is_suspect = true;
-        if let Err(error) = self.file.sync_all() {
-            libc::posix_fadvise(self.file.as_raw_fd(), 0, 0, libc::POSIX_FADV_DONTNEED);
+        if let Err(error) = self.file.sync_data() {
+            let _ = self.forget();
             return Err(error);
         }
-        let end = self.length()?;
-        self.from = end;
+        self.from = u64::MAX;
         self.to = 0;
         self.is_written = false;
         self.is_suspect = false;
+        Ok(())
+    }
+
+    /// Puts on the disk what anybody wrote, and has the system forget what it keeps of the file.
+    /// What is read from then on is what the disk has.
+    ///
+    /// Who wrote the file before may have had a sync that failed, and ended: then the system may
+    /// keep bytes that the disk hasn't, and answer this sync with success.
+    pub(crate) fn settle(&mut self) -> io::Result<()>
+        ensures { OnOk result (¬ (IsTrue self.new.is_suspect)) }
+    {
+        self.sync()?;
+        self.forget()?;
+        self.end = self.length()?;
+        Ok(())
+    }
+
+    /// Asks the system to forget what it keeps of the file in memory, and the disk has too.
+    fn forget(&self) -> io::Result<()> {
+        let advised = libc::posix_fadvise(self.file.as_raw_fd(), 0, 0, libc::POSIX_FADV_DONTNEED);
+        if advised != 0 {
+            return Err(io::Error::from_raw_os_error(advised));
+        }
         Ok(())
     }
 

@@ -1,8 +1,9 @@
 //! A host over the files of the current folder and the standard streams.
 //!
-//! [`FolderHost`] is the host of the program: it adapts std's files and streams to the traits of `odb_device`. It counts its
-//! faults and tells proofs no content. So of what is proved over a host, only what speaks of counts says something of it:
-//! what a real file holds, what a crash leaves of it and what a stream gives or takes is claimed nowhere.
+//! [`FolderHost`] is the host of the program: it adapts std's files and streams to the traits of
+//! `odb_device`. It counts its faults and tells proofs no content. So of what is proved over a
+//! host, only what speaks of counts says something of it: what a real file holds, what a crash
+//! leaves of it and what a stream gives or takes is claimed nowhere.
 #![tactic(auto)]
 
 mod counts;
@@ -10,6 +11,7 @@ mod file;
 mod folder;
 mod host;
 mod name;
+mod opening;
 mod streams;
 
 pub use host::FolderHost;

@@ -1,4 +1,4 @@
-// The names of files.
+//! The names of files.
 ghost use Rattle.std.specs.Prelude.{◌≡◌};
 ghost use Rattle.odb_folder.specs.Name.{name_of};
 

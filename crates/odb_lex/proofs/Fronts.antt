@@ -10,7 +10,7 @@ use Rattle.std.proofs.lemmas.Str.{IsUtf8-append, IsUtf8-nil, IsUtf8-drop, IsChar
 use Rattle.std.specs.List.{prefix_len}
 use Rattle.std.specs.Str.{is_utf8}
 use Rattle.std.specs.Str.Lossy.{valid_len_up_to, utf8_valid_len}
-use Rattle.odb_lex.specs.Bytes.{is_plain}
+use Rattle.odb_values.specs.Text.{is_plain}
 use Rattle.odb_lex.specs.Quoted.{right_len}
 
 up_to_le : (bs : List ℕ) (m : ℕ) → valid_len_up_to bs m ≤ m

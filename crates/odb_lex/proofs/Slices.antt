@@ -16,9 +16,10 @@ use Rattle.odb_lex.specs.declared.error.LexError.TheVariants.{BadCharacter, Open
 use Rattle.odb_lex.specs.declared.token.Token.{Token}
 use Rattle.odb_lex.specs.declared.token.TokenKind.{TokenKind}
 use Rattle.odb_lex.specs.declared.token.TokenKind.TheVariants.{Name, Number, Quoted, Sign}
-use Rattle.odb_lex.specs.Bytes.{is_blank, is_name_byte, is_plain, signs, sign_in}
+use Rattle.odb_values.specs.Text.{IsText, is_plain}
+use Rattle.odb_lex.specs.Bytes.{is_blank, is_name_byte, signs, sign_in}
 use Rattle.odb_lex.specs.Quoted.{doubled, value_from, right_len, text_end}
-use Rattle.odb_lex.specs.Token.{IsToken, IsTextValue, IsQuoted, StandsIn, value_in}
+use Rattle.odb_lex.specs.Token.{IsToken, IsQuoted, StandsIn, value_in}
 use Rattle.odb_lex.specs.Next.{token, name_at, number_at, quoted_at, sign_at, front, found, next_in}
 use Rattle.odb_lex.proofs.Fronts.{whole_from_len}
 use Rattle.odb_lex.proofs.Spellings.{EndsByQuote, spelling_of_value, value_of_spelling}
@@ -90,7 +91,7 @@ number_front from bytes t some digit e =
 
 -- ---- a quoted text
 
-text_value_is : (v : List ℕ) → length v ≤ right_len 800 v → IsTextValue v
+text_value_is : (v : List ℕ) → length v ≤ right_len 800 v → IsText v
 text_value_is v whole =
     let plain_le = prefix_len-le-length is_plain v in
     let utf8_le = utf8_valid_len_le v in
@@ -99,7 +100,7 @@ text_value_is v whole =
     record { utf8 = whole_from_len v utf8; plain = all_pass is_plain v plain; short = omega arith }
 
 record IsTextEnd (from : ℕ) (bytes : List ℕ) (to : ℕ) : Type 0 where
-  right : IsTextValue (value_from bytes)
+  right : IsText (value_from bytes)
   closed : EndsByQuote bytes
   end : to ≡ from + (length (doubled (value_from bytes)) + 2)
 
@@ -130,7 +131,7 @@ text_end_is from bytes to e =
     (cases_Bool (eqb size (length bytes))))
     (cases_Bool (nat_lt right (length v)))
 
-quoted_slice : (bytes : List ℕ) → EndsByQuote bytes → IsTextValue (value_from bytes)
+quoted_slice : (bytes : List ℕ) → EndsByQuote bytes → IsText (value_from bytes)
     → IsQuoted (take (length (doubled (value_from bytes)) + 2) (39 ∷ bytes))
 quoted_slice bytes closed right =
     let v = value_from bytes in
@@ -142,7 +143,7 @@ quoted_slice bytes closed right =
     rw cut
     (record {
       spelled = ap (λ w. 39 ∷ (doubled w ++ 39 ∷ [])) (sym value);
-      value = subst IsTextValue (sym value) right;
+      value = subst IsText (sym value) right;
     })
 
 quoted_end : (from : ℕ) (bytes : List ℕ) (t : Token) (r : Result ℕ LexError) → 0 < length bytes → get_or bytes 0 0 ≡ 39

@@ -1,5 +1,5 @@
 -- The bytes of a statement's text, and the signs. The rules are this project's own.
-use Rattle.std.specs.Prelude.{ℕ, Bool, ◌||◌, ◌==◌, nat_eq, nat_le, Option, List, [], ◌∷◌, codes, find}
+use Rattle.std.specs.Prelude.{ℕ, Bool, ◌||◌, ◌==◌, nat_eq, Option, List, [], ◌∷◌, codes, find}
 use Rattle.std.specs.Char.{is_ascii_alphanumeric}
 use Rattle.std.specs.List.{starts_with}
 
@@ -11,15 +11,11 @@ is_blank b = (b == 32) || (b == 9)
 abbrev pub is_name_byte : ℕ → Bool
 is_name_byte b = is_ascii_alphanumeric b || (b == 95)
 
--- what a quoted text may have: no control byte (below 32) but tab (9)
-abbrev pub is_plain : ℕ → Bool
-is_plain b = nat_le 32 b || (b == 9)
-
 -- the signs, each before those that it begins with
 abbrev pub signs : List (List ℕ)
 signs =
-    codes "<>" ∷ codes "<=" ∷ codes ">=" ∷ codes "<" ∷ codes ">" ∷ codes "=" ∷ codes "(" ∷ codes ")" ∷ codes "," ∷ codes "*"
-    ∷ codes "+" ∷ codes "-" ∷ codes ";" ∷ []
+    codes "<>" ∷ codes "<=" ∷ codes ">=" ∷ codes "<" ∷ codes ">" ∷ codes "="
+    ∷ codes "(" ∷ codes ")" ∷ codes "," ∷ codes "*" ∷ codes "+" ∷ codes "-" ∷ codes ";" ∷ []
 
 -- the longest sign that the bytes begin with
 abbrev pub sign_in : List ℕ → Option (List ℕ)

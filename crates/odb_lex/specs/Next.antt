@@ -16,13 +16,14 @@ token kind from to = record { kind = kind; from = from; to = to }
 
 -- a name of as many bytes, of which the 33rd is refused
 abbrev pub name_at : ℕ → ℕ → Result Token LexError
-name_at from len = if nat_le len 32 then Ok (token Name from (from + len)) else Err (BadCharacter (from + 32))
+name_at from len =
+    if nat_le len 32 then Ok (token Name from (from + len)) else Err (BadCharacter (from + 32))
 
 -- a number of these digits, which is refused above 2^63
 abbrev pub number_at : ℕ → List ℕ → Result Token LexError
 number_at from digits =
-    if nat_le (digits_value 10 digits) 9223372036854775808 then Ok (token Number from (from + length digits))
-    else Err (NumberTooWide from)
+    if nat_le (digits_value 10 digits) 9223372036854775808
+    then Ok (token Number from (from + length digits)) else Err (NumberTooWide from)
 
 -- a quoted text that ends there, or what is wrong with it
 abbrev pub quoted_at : ℕ → Result ℕ LexError → Result Token LexError
@@ -35,7 +36,8 @@ sign_at from (Some sign) = Ok (token Sign from (from + length sign))
 sign_at from None = Err (BadCharacter from)
 
 -- the token at the front of bytes of which the first, at `from`, is no blank; or why there is none.
--- A quote is 39. A name goes on as long as its bytes do, and so does a number; of the signs the longest is taken
+-- A quote is 39. A name goes on as long as its bytes do, and so does a number; of the signs the
+-- longest is taken
 abbrev pub front : ℕ → List ℕ → Result Token LexError
 front from bytes =
     let first = slice_index bytes 0 in

@@ -29,8 +29,8 @@ pub fn capped_value(digits: &[u8]) -> u64
     value
 }
 
-/// The value of a Quoted token, from its bytes with both quotes: at most 800 bytes of UTF-8 without a
-/// control byte but tab. The error is want of memory: the value is built in memory.
+/// The value of a Quoted token, from its bytes with both quotes: at most 800 bytes of UTF-8 without
+/// a control byte but tab. The error is want of memory: the value is built in memory.
 pub fn text_of(alloc: Global, token: &[u8]) -> Result<String, AllocError>
     requires { IsQuoted token.now }
     ensures { IfOk result (λ value. string_bytes value ≡ value_in token.now) }
@@ -52,8 +52,8 @@ fn utf8(bytes: &[u8]) -> &str
     str::from_utf8(bytes).unwrap()
 }
 
-/// A Name token in capitals, from its bytes: small letters stand for large ones. The error is want of
-/// memory: the name is built in memory.
+/// A Name token in capitals, from its bytes: small letters stand for large ones. The error is want
+/// of memory: the name is built in memory.
 pub fn name_of(alloc: Global, token: &[u8]) -> Result<String, AllocError>
     requires { IsName token.now }
     ensures { IfOk result (λ name. string_bytes name ≡ capitals token.now) }

@@ -1,9 +1,10 @@
-ghost use Rattle.std.specs.Prelude.{◌≡◌, ◌<◌, ◌≤◌, length, drop, slice_range, take_while, IsTrue};
-ghost use Rattle.std.specs.List.{list_all, prefix_len};
+//! The next token of a text.
+ghost use Rattle.std.specs.Prelude.{◌≡◌, ◌<◌, ◌≤◌, length, drop, slice_range, take_while};
+ghost use Rattle.std.specs.List.{prefix_len};
 ghost use Rattle.std.specs.Char.{is_ascii_digit};
-ghost use Rattle.odb_lex.specs.Bytes.{is_blank, is_name_byte, sign_in};
+ghost use Rattle.odb_lex.specs.Bytes.{is_name_byte, sign_in};
 ghost use Rattle.odb_lex.specs.Next.{next_in, front, name_at, number_at, sign_at};
-ghost use Rattle.odb_lex.specs.Token.{IfToken, IsToken, StandsIn};
+ghost use Rattle.odb_lex.specs.Token.{AreBlank, IfToken, IsTokenOf, StandsIn};
 
 use crate::meaning::capped_value;
 use crate::quoted::text_end;
@@ -18,15 +19,15 @@ const GREATEST_NUMBER: u64 = 9_223_372_036_854_775_808;
 
 /// The next token of a text from a place on, or None where nothing but blanks is left.
 ///
-/// Tokens stand side by side or with blanks between them, so the place behind a token is where the next is
-/// asked for. A refusal is final for the text: no token is told of what follows it. It takes no memory, and
-/// time in the bytes of the blanks and the token; a refused text may be looked at to its end.
+/// Tokens stand side by side or with blanks between them, so the place behind a token is where the
+/// next is asked for. A refusal is final for the text: no token is told of what follows it. It
+/// takes time in the bytes of the blanks and the token; a refused text may be looked at to its end.
 pub fn next_token(text: &[u8], at: usize) -> Result<Option<Token>, LexError>
     requires { at ≤ length text.now }
     ensures next { result ≡ next_in text.now at }
     ensures stands { IfToken result (λ token. StandsIn at token (length text.now)) }
-    ensures blank { IfToken result (λ token. IsTrue (list_all is_blank (slice_range text.now at token.from))) }
-    ensures slice { IfToken result (λ token. IsToken token.kind (slice_range text.now token.from token.to)) }
+    ensures blank { IfToken result (λ token. AreBlank (slice_range text.now at token.from)) }
+    ensures slice { IfToken result (λ token. IsTokenOf text.now token) }
 {
     let from = at + blank_len(&text[at..]);
     if from == text.len() {

@@ -2,7 +2,8 @@
 ghost use Rattle.std.specs.Prelude.{◌≡◌, ◌≤◌, length};
 ghost use Rattle.std.specs.List.{prefix_len};
 ghost use Rattle.std.specs.Char.{is_ascii_digit};
-ghost use Rattle.odb_lex.specs.Bytes.{is_blank, is_name_byte, is_plain};
+ghost use Rattle.odb_values.specs.Text.{is_plain};
+ghost use Rattle.odb_lex.specs.Bytes.{is_blank, is_name_byte};
 ghost use Rattle.odb_lex.specs.Quoted.{quote_in};
 
 /// How many blanks stand at the front: spaces and tabs.

@@ -1,3 +1,4 @@
+//! What a token is, and where it stands.
 /// What a token is.
 #[derive(Clone, Copy, Debug, PartialEq, Eq)]
 pub enum TokenKind {

@@ -1,7 +1,7 @@
 -- Which calls of a host in memory fail, and what each call makes of it.
-use Rattle.std.specs.Prelude.{◌≡◌, ℕ, ◌+◌, ◌-◌, min, max, Bool, if◌then◌else◌, ◌==◌, ◌||◌, nat_lt, List, ◌++◌, length, take, drop}
+use Rattle.std.specs.Prelude.{◌≡◌, ℕ, ◌+◌, max, Bool, if◌then◌else◌, ◌==◌, ◌||◌, nat_lt, List, ◌++◌, length, take, drop, Result, IfOk}
 use Rattle.odb_device.specs.World.{File}
-use Rattle.odb_device.specs.Images.{part, written, torn, kept}
+use Rattle.odb_device.specs.Images.{written, torn, kept}
 use Rattle.odb_memstore.specs.declared.recorder.Call.{Call}
 use Rattle.odb_memstore.specs.declared.recorder.Call.TheVariants.{Write, Take, Say}
 use Rattle.odb_memstore.specs.Numbered.{all_lengths}
@@ -13,7 +13,8 @@ abbrev pub total_with : Tape → ℕ → ℕ → ℕ
 total_with tape file end =
     all_lengths (λ g. let n = length (file_now tape g).bytes in if g == file then max n end else n)
 
--- a write of n bytes finds no place, or no room: the lengths of all files, or of all pieces written, would be above it
+-- a write of n bytes finds no place, or no room: the lengths of all files, or of all pieces
+-- written, would be above it
 abbrev pub is_past_write : ℕ → ℕ → ℕ → Tape → Bool
 is_past_write file at n tape =
     is_full tape.recording
@@ -47,8 +48,8 @@ after_write file at bytes tape =
     if is_past_write file at (length bytes) tape then after_refusal call tape
     else record tape { recording = noted call tape.recording; pieces = tape.pieces ++ bytes }
 
--- A file after a write. One past its place or room leaves all as it was; one that is listed leaves the bytes, but a
--- crash may leave anything in its range.
+-- A file after a write. One past its place or room leaves all as it was; one that is listed leaves
+-- the bytes, but a crash may leave anything in its range.
 abbrev pub file_after_write : ℕ → ℕ → List ℕ → Tape → File
 file_after_write file at bytes tape =
     let f = file_now tape file in
@@ -85,6 +86,9 @@ after_say bytes tape =
       said = if is_listed tape.recording then tape.said else tape.said ++ bytes;
     }
 
--- n bytes from `at` on, to the end of either, stand at the front of out
-abbrev pub HasCopied : List ℕ → ℕ → ℕ → List ℕ → Type 0
-HasCopied bytes at n out = (n ≡ min (length out) (length bytes - at)) × (take n out ≡ part at n bytes)
+-- a `take` into `out`, of at most so many bytes: what it gives are the next bytes of the input, and
+-- this is what it makes of the record
+pub record TakesNext {E : Type 0} (most : ℕ) (out : List ℕ) (result : Result ℕ E) (old new : Tape)
+    : Type 0 where
+  pub bytes : IfOk result (λ n. take n out ≡ next_input most old)
+  pub next : new ≡ after_take most old

@@ -38,19 +38,21 @@ is_unsettled (Sync of) later = false
 is_unsettled Take later = false
 is_unsettled (Say len) later = false
 
--- what an unsettled range holds: with 0 what it held before, with zeros past the old end; with 1 what was written; with
--- 2 bytes 0xA5
+-- what an unsettled range holds: with 0 what it held before, with zeros past the old end; with 1
+-- what was written; with 2 bytes 0xA5
 abbrev pub held_by : ℕ → ℕ → List ℕ → List ℕ → List ℕ
 held_by digit at piece bytes =
     if digit == 0 then extended (at + length piece) bytes
     else if digit == 1 then overwritten at piece bytes
     else overwritten at (replicate (length piece) 0xA5) bytes
 
--- what one call leaves of a file before these later calls, of which the first digit speaks where it is unsettled
+-- what one call leaves of a file before these later calls, of which the first digit speaks where it
+-- is unsettled
 abbrev pub left_by_call : List ℕ → ℕ → Call → Bool → List Recorded → List ℕ → List ℕ → List ℕ
 left_by_call pieces file (Write of at from len) failed later ds bytes =
     if of == file then
-    (if is_synced of later then (if failed then bytes else overwritten at (part from len pieces) bytes)
+    (if is_synced of later
+    then (if failed then bytes else overwritten at (part from len pieces) bytes)
     else held_by (first_digit ds) at (part from len pieces) bytes)
     else bytes
 left_by_call pieces file (Look of) failed later ds bytes = bytes
@@ -62,22 +64,40 @@ left_by_call pieces file (Say len) failed later ds bytes = bytes
 abbrev pub digits_after : Call → List Recorded → List ℕ → List ℕ
 digits_after call later ds = if is_unsettled call later then drop 1 ds else ds
 
--- and what all these calls leave of it: the unsettled ranges of all files take the digits in the order of the calls
+-- and what all these calls leave of it: the unsettled ranges of all files take the digits in the
+-- order of the calls
 abbrev pub left_by : List ℕ → ℕ → List Recorded → List ℕ → List ℕ → List ℕ
 left_by pieces file [] ds bytes = bytes
 left_by pieces file (c ∷ later) ds bytes =
-    left_by pieces file later (digits_after c.call later ds) (left_by_call pieces file c.call c.failed later ds bytes)
+    left_by pieces file later (digits_after c.call later ds)
+    (left_by_call pieces file c.call c.failed later ds bytes)
 
--- a file after a crash that comes behind the first so many calls: 40 digits of the number to base 3 say what the
--- unsettled ranges hold, and those behind them hold what they held before
+-- what one call leaves of each of these files before these later calls
+abbrev pub LeavesCall : List ℕ → Recorded → List Recorded → List ℕ
+    → List (ℕ × List ℕ) → List (ℕ × List ℕ) → Type 0
+LeavesCall pieces c later ds old new =
+    (file : ℕ)
+    → bytes_of new file ≡ left_by_call pieces file c.call c.failed later ds (bytes_of old file)
+
+-- and what all these calls leave of each
+abbrev pub LeavesCalls : List ℕ → List Recorded → List ℕ
+    → List (ℕ × List ℕ) → List (ℕ × List ℕ) → Type 0
+LeavesCalls pieces calls ds old new =
+    (file : ℕ) → bytes_of new file ≡ left_by pieces file calls ds (bytes_of old file)
+
+-- a file after a crash that comes behind the first so many calls: 40 digits of the number to base 3
+-- say what the unsettled ranges hold, and those behind them hold what they held before
 abbrev pub crash_image : Tape → ℕ → ℕ → ℕ → List ℕ
 crash_image tape calls pick file =
-    left_by tape.pieces file (take calls tape.recording.calls) (digits 40 pick) (bytes_of tape.start file)
+    left_by tape.pieces file (take calls tape.recording.calls) (digits 40 pick)
+    (bytes_of tape.start file)
 
 -- each file of the host left has these bytes
 abbrev pub LeavesDigits : Tape → ℕ → ℕ → Tape → Type 0
-LeavesDigits tape calls pick left = (file : ℕ) → (file_now left file).bytes ≡ crash_image tape calls pick file
+LeavesDigits tape calls pick left =
+    (file : ℕ) → (file_now left file).bytes ≡ crash_image tape calls pick file
 
 -- and so one of the images that it had behind these calls
 abbrev pub LeavesImages : Tape → ℕ → Tape → Type 0
-LeavesImages tape calls left = (file : ℕ) → IsImage (file_at tape calls file) (file_now left file).bytes
+LeavesImages tape calls left =
+    (file : ℕ) → IsImage (file_at tape calls file) (file_now left file).bytes

@@ -28,7 +28,8 @@ one_call pieces file (Write of at from len) failed f one =
     let writes = image_written f at piece one in
     one_choice (of == file) (if failed then torn at len f.bytes f else written at piece f) f
     (one_choice failed (torn at len f.bytes f) (written at piece f) tears writes) one
-one_call pieces file (Sync of) failed f one = one_choice (of == file && not failed) (kept f) f (image_kept_bytes f) one
+one_call pieces file (Sync of) failed f one =
+    one_choice (of == file && not failed) (kept f) f (image_kept_bytes f) one
 one_call pieces file Take failed f one = one
 one_call pieces file (Say len) failed f one = one
 
@@ -36,7 +37,8 @@ one_calls : (pieces : List ℕ) (file : ℕ) (calls : List Recorded) (f : File) 
     → ReadsOne (after_calls pieces file calls f)
 one_calls pieces file [] f one = one
 one_calls pieces file (c ∷ calls) f one =
-    one_calls pieces file calls (after_call pieces file c.call c.failed f) (one_call pieces file c.call c.failed f one)
+    one_calls pieces file calls (after_call pieces file c.call c.failed f)
+    (one_call pieces file c.call c.failed f one)
 
 pub tape_reads_image : (tape : Tape) (file : ℕ) → ReadsImage (file_of file (world_of tape))
 tape_reads_image tape file =

@@ -33,8 +33,8 @@ abbrev pub total_length : List (ℕ × List ℕ) → ℕ
 total_length [] = 0
 total_length (f ∷ files) = length f.1 + total_length files
 
--- The bytes are just those of the entries, and the lengths of the files that these give are those of all files: no
--- number has two entries.
+-- The bytes are just those of the entries, and the lengths of the files that these give are those
+-- of all files: no number has two entries.
 pub record IsLaid (held : List Held) (bytes : List ℕ) : Type 0 where
   pub packed : held_length held ≡ length bytes
   pub total : total_length (contents held bytes) ≡ lengths_of (contents held bytes)

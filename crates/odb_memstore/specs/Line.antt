@@ -1,11 +1,12 @@
 -- A link in memory, as proofs see it, and what its calls make of it.
-use Rattle.std.specs.Prelude.{ℕ, ◌+◌, Bool, false, if◌then◌else◌, ◌==◌, ◌||◌, nat_lt, List, [], ◌++◌, length, take, drop, Some}
+use Rattle.std.specs.Prelude.{◌≡◌, ℕ, ◌+◌, Bool, false, if◌then◌else◌, ◌==◌, ◌||◌, nat_lt, List, [], ◌∷◌, ◌++◌, length, take, drop, Some, Result, IfOk}
 use Rattle.std.specs.List.{list_any}
 use Rattle.odb_device.specs.Connections.{Wire}
 use Rattle.odb_memstore.specs.Recording.{one_more}
 
--- All that there is to receive, how much of it was received, and whether 0 was answered; the bytes sent, and how many
--- there may be; the numbers of the calls that are to fail, how many calls were made, and how many failed.
+-- All that there is to receive, how much of it was received, and whether 0 was answered; the bytes
+-- sent, and how many there may be; the numbers of the calls that are to fail, how many calls were
+-- made, and how many failed.
 pub record Line : Type 0 where
   pub input : List ℕ
   pub received : ℕ
@@ -37,6 +38,10 @@ wire_of line = record {
   has_ended = line.has_ended;
   faults = line.faults;
 }
+
+-- this call is listed too
+abbrev pub with_listed : ℕ → Line → Line
+with_listed call line = record line { failing = line.failing ++ call ∷ [] }
 
 -- the number of the next call is listed
 abbrev pub is_next_listed : Line → Bool
@@ -70,3 +75,10 @@ abbrev pub after_send : List ℕ → Line → Line
 after_send bytes line =
     if fails_to_send (length bytes) line then failed line
     else record line { sent = line.sent ++ bytes; calls = one_more line.calls }
+
+-- a `receive` into `out`, of at most so many bytes: what it gives are the next bytes of the input,
+-- and this is what it makes of the link
+pub record ReceivesNext {E : Type 0} (most : ℕ) (out : List ℕ) (result : Result ℕ E)
+    (old new : Line) : Type 0 where
+  pub bytes : IfOk result (λ n. take n out ≡ next_received most old)
+  pub next : new ≡ after_receive most old

@@ -9,7 +9,16 @@ bytes_of (f ∷ files) file = if f.0 == file then f.1 else bytes_of files file
 -- the file has these bytes, where it was or behind the others
 abbrev pub with_bytes : List (ℕ × List ℕ) → ℕ → List ℕ → List (ℕ × List ℕ)
 with_bytes [] file bytes = (file, bytes) ∷ []
-with_bytes (f ∷ files) file bytes = if f.0 == file then (f.0, bytes) ∷ files else f ∷ with_bytes files file bytes
+with_bytes (f ∷ files) file bytes =
+    if f.0 == file then (f.0, bytes) ∷ files else f ∷ with_bytes files file bytes
+
+-- the file has what this makes of its bytes
+abbrev pub with_changed : List (ℕ × List ℕ) → ℕ → (List ℕ → List ℕ) → List (ℕ × List ℕ)
+with_changed files file change = with_bytes files file (change (bytes_of files file))
+
+-- the files are the same, but for the bytes of this one
+abbrev pub AreSameBut : ℕ → List (ℕ × List ℕ) → List (ℕ × List ℕ) → Type 0
+AreSameBut file old new = (bytes : List ℕ) → with_bytes new file bytes ≡ with_bytes old file bytes
 
 -- the file is there, so that it may be given the bytes that it has
 abbrev pub IsThere : List (ℕ × List ℕ) → ℕ → Type 0

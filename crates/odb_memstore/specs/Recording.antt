@@ -6,8 +6,8 @@ use Rattle.odb_memstore.specs.declared.recorder.Call.TheVariants.{Look, Write, S
 use Rattle.odb_memstore.specs.declared.recorder.Recorded.{Recorded}
 use Rattle.odb_memstore.specs.declared.recorder.Refused.{Refused}
 
--- how many places there are, the numbers of the calls that are to fail, the calls from number 0 on, and how many found
--- no place or no room
+-- how many places there are, the numbers of the calls that are to fail, the calls from number 0 on,
+-- and how many found no place or no room
 pub record Recording : Type 0 where
   pub places : ℕ
   pub failing : List ℕ
@@ -23,9 +23,17 @@ no_calls places = record {
   refused = record { store = 0; take = 0; say = 0 };
 }
 
+-- how many places are left
+abbrev pub places_left : Recording → ℕ
+places_left r = r.places - length r.calls
+
 -- no place is left
 abbrev pub is_full : Recording → Bool
 is_full r = nat_le r.places (length r.calls)
+
+-- this call is listed too
+abbrev pub with_listed : ℕ → Recording → Recording
+with_listed call r = record r { failing = r.failing ++ call ∷ [] }
 
 -- the number of the next call is listed
 abbrev pub is_listed : Recording → Bool

@@ -10,12 +10,14 @@ use Rattle.odb_memstore.specs.declared.recorder.Recorded.{Recorded}
 abbrev pub settled : List ℕ → File
 settled bytes = record { bytes = bytes; synced = bytes; ranges = [] }
 
--- A file after one call, the bytes of a write being a part of the pieces. A write that failed changes no bytes, but a
--- crash may leave anything in its range.
+-- A file after one call, the bytes of a write being a part of the pieces. A write that failed
+-- changes no bytes, but a crash may leave anything in its range.
 abbrev pub after_call : List ℕ → ℕ → Call → Bool → File → File
 after_call pieces file (Look of) failed f = f
 after_call pieces file (Write of at from len) failed f =
-    if of == file then (if failed then torn at len f.bytes f else written at (part from len pieces) f) else f
+    if of == file
+    then (if failed then torn at len f.bytes f else written at (part from len pieces) f)
+    else f
 after_call pieces file (Sync of) failed f = if of == file && not failed then kept f else f
 after_call pieces file Take failed f = f
 after_call pieces file (Say len) failed f = f
@@ -23,7 +25,8 @@ after_call pieces file (Say len) failed f = f
 -- and after calls in order
 abbrev pub after_calls : List ℕ → ℕ → List Recorded → File → File
 after_calls pieces file [] f = f
-after_calls pieces file (c ∷ calls) f = after_calls pieces file calls (after_call pieces file c.call c.failed f)
+after_calls pieces file (c ∷ calls) f =
+    after_calls pieces file calls (after_call pieces file c.call c.failed f)
 
 -- how many bytes one call said
 abbrev pub said_in : Call → Bool → ℕ

@@ -2,14 +2,12 @@
 use Rattle.std.specs.Prelude.{◌≡◌, ◌≢◌, ℕ, List, [], ◌∷◌, ◌++◌, map}
 use Rattle.odb_device.specs.World.{World, file_of}
 use Rattle.odb_memstore.specs.Numbered.{with_bytes}
-use Rattle.odb_memstore.specs.Recording.{forgotten}
+use Rattle.odb_memstore.specs.Recording.{forgotten, with_listed}
 use Rattle.odb_memstore.specs.Tape.{Tape}
 
 -- this call is listed too
 abbrev pub with_failing : ℕ → Tape → Tape
-with_failing call tape = record tape {
-  recording = record tape.recording { failing = tape.recording.failing ++ call ∷ [] };
-}
+with_failing call tape = record tape { recording = with_listed call tape.recording }
 
 -- these bytes are to be taken after the others
 abbrev pub with_input : List ℕ → Tape → Tape

@@ -4,6 +4,7 @@ use Rattle.odb_memstore.specs.declared.recorder.Call.{Call}
 use Rattle.odb_memstore.specs.declared.recorder.Call.TheVariants.{Look, Write, Sync, Take, Say}
 use Rattle.odb_memstore.specs.declared.recorder.Recorded.{Recorded}
 use Rattle.odb_memstore.specs.Numbered.{bytes_of}
+use Rattle.odb_memstore.specs.Recording.{places_left}
 use Rattle.odb_memstore.specs.Shelf.{Shelf}
 use Rattle.odb_memstore.specs.Replay.{said_by}
 use Rattle.odb_memstore.specs.Tape.{Tape, file_now}
@@ -35,11 +36,12 @@ IsBare Take = Unit {0}
 IsBare (Write file at from len) = ⊥
 IsBare (Say len) = ⊥
 
--- The files held are those of the record, with room for so many bytes and a place for each call that is still to come.
+-- The files held are those of the record, with room for so many bytes and a place for each call
+-- that is still to come.
 pub record Stands (current : Shelf) (room_of_pieces room_of_said : ℕ) (tape : Tape) : Type 0 where
   pub whole : IsWhole tape
   pub bytes : (file : ℕ) → bytes_of current.files file ≡ (file_now tape file).bytes
-  pub places : length current.files + (tape.recording.places - length tape.recording.calls) ≤ current.places
+  pub places : length current.files + places_left tape.recording ≤ current.places
   pub room : tape.room ≤ current.room
   pub pieces_room : tape.room ≤ room_of_pieces
   pub said_room : tape.room ≤ room_of_said

@@ -1,6 +1,6 @@
-// Bytes copied out of a list, and put behind one.
+//! Bytes copied out of a list, and put behind one.
 ghost use Rattle.std.specs.Prelude.{◌≡◌, ◌+◌, ◌≤◌, ◌++◌, length, vec_len, vec_capacity};
-ghost use Rattle.odb_memstore.specs.Calls.{HasCopied};
+ghost use Rattle.odb_device.specs.Calls.{HasCopied};
 
 /// Copies the front of what lies from a byte on.
 pub(crate) fn copy_from(bytes: &[u8], at: u64, out: &mut [u8]) -> usize

@@ -1,9 +1,9 @@
-// What a crash leaves of a host in memory.
+//! What a crash leaves of a host in memory.
 ghost use Rattle.std.specs.Prelude.{◌≡◌, ◌+◌, ◌≤◌, ◌^◌, ℕ, length, drop, IfOk, OnOk};
-ghost use Rattle.odb_memstore.specs.Numbered.{bytes_of, with_bytes};
-ghost use Rattle.odb_memstore.specs.Tape.{fresh};
+ghost use Rattle.odb_memstore.specs.Numbered.{bytes_of, with_changed};
+ghost use Rattle.odb_memstore.specs.Tape.{IsFreshOf};
 ghost use Rattle.odb_memstore.specs.Standing.{HasPiece, HavePieces};
-ghost use Rattle.odb_memstore.specs.Crash.{digits, first_digit, is_synced, held_by, left_by_call, digits_after, left_by};
+ghost use Rattle.odb_memstore.specs.Crash.{digits, first_digit, is_synced, held_by, digits_after, LeavesCall, LeavesCalls};
 ghost use Rattle.odb_memstore.specs.Crash.{LeavesDigits, LeavesImages};
 
 use crate::files::Files;
@@ -55,19 +55,19 @@ impl Digits {
 }
 
 impl MemHost {
-    /// The host as a crash behind the first so many recorded calls leaves it: with the same room and places, and with
-    /// nothing recorded, listed, fed or said.
+    /// The host as a crash behind the first so many recorded calls leaves it: with the same room
+    /// and places, and with nothing recorded, listed, fed or said.
     ///
-    /// A range is unsettled where a write, failed or not, was followed by no sync of its file that succeeded. These
-    /// ranges are numbered from 0 in the order of the calls, whatever their files, and digit i of `pick` to base 3 says
-    /// what range i holds: 0 what it held before, with zeros past the old end; 1 what was written; 2 bytes 0xA5. From
-    /// number 40 on the digit is 0.
+    /// A range is unsettled where a write, failed or not, was followed by no sync of its file that
+    /// succeeded. These ranges are numbered from 0 in the order of the calls, whatever their files,
+    /// and digit i of `pick` to base 3 says what range i holds: 0 what it held before, with zeros
+    /// past the old end; 1 what was written; 2 bytes 0xA5. From number 40 on the digit is 0.
     ///
-    /// It takes a pass over the calls, and for each write one over those behind it as far as to the sync that settled
-    /// it. It takes memory as `new` does, and for a copy of the files.
+    /// It takes a pass over the calls, and for each write one over those behind it as far as to the
+    /// sync that settled it. It takes memory as `new` does, and for a copy of the files.
     pub fn crash(&self, alloc: Global, calls: u32, pick: u64) -> Result<MemHost, MemError>
         requires { calls ≤ length self.now.recording.calls }
-        ensures fresh { IfOk result (λ host. host ≡ fresh self.now.room self.now.recording.places host.start) }
+        ensures fresh { IfOk result (IsFreshOf self.now) }
         ensures files { IfOk result (LeavesDigits self.now calls pick) }
         ensures images { IfOk result (LeavesImages self.now calls) }
     {
@@ -87,8 +87,8 @@ fn leave_all(
     pick: u64,
 ) -> Result<(), AllocError>
     requires { HavePieces (length pieces.now) calls.now }
-    ensures { OnOk result ((file : ℕ) → bytes_of files.new.files file
-        ≡ left_by pieces.now file calls.now (digits 40 pick) (bytes_of files.old.files file)) }
+    ensures { OnOk result
+        (LeavesCalls pieces.now calls.now (digits 40 pick) files.old.files files.new.files) }
 {
     let mut digits = Digits::of(pick);
     for (at, recorded) in calls.iter().enumerate() {
@@ -114,9 +114,8 @@ fn leave(
     digits: &mut Digits,
 ) -> Result<(), AllocError>
     requires { HasPiece (length pieces.now) recorded.call }
-    ensures files { OnOk result ((file : ℕ) → bytes_of files.new.files file
-        ≡ left_by_call pieces.now file recorded.call recorded.failed later.now digits.old
-        (bytes_of files.old.files file)) }
+    ensures files { OnOk result
+        (LeavesCall pieces.now recorded later.now digits.old files.old.files files.new.files) }
     ensures digits { OnOk result (digits.new ≡ digits_after recorded.call later.now digits.old) }
 {
     let Call::Write {
@@ -151,8 +150,8 @@ fn hold(
     digit: u64,
 ) -> Result<(), AllocError>
     requires { at + length piece.now ≤ 2 ^ 40 }
-    ensures { OnOk result (files.new.files
-        ≡ with_bytes files.old.files file (held_by digit at piece.now (bytes_of files.old.files file))) }
+    ensures { OnOk result
+        (files.new.files ≡ with_changed files.old.files file (held_by digit at piece.now)) }
 {
     files.reserve(1, at + piece.len())?;
     if digit == 0 {

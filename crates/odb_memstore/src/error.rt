@@ -1,4 +1,4 @@
-// What the calls for tests may refuse.
+//! What the calls for tests may refuse.
 use std::alloc::AllocError;
 use thiserror::Error;
 

@@ -1,7 +1,8 @@
-// Numbered files in memory.
-ghost use Rattle.std.specs.Prelude.{◌≡◌, ◌+◌, ◌-◌, ◌^◌, ◌<◌, ◌≤◌, ◌++◌, [], length, take, drop, replicate, vec_len, vec_capacity, IfOk, OnOk, List, ℕ};
+//! Numbered files in memory.
+ghost use Rattle.std.specs.Prelude.{◌≡◌, ◌+◌, ◌^◌, ◌<◌, ◌≤◌, ◌++◌, [], length, take, drop, replicate, vec_len, vec_capacity, IfOk, OnOk};
 ghost use Rattle.odb_device.specs.Images.{overwritten};
-ghost use Rattle.odb_memstore.specs.Numbered.{bytes_of, with_bytes, lengths_of, IsThere, extended, pasted};
+ghost use Rattle.odb_memstore.specs.Numbered.{bytes_of, with_bytes, with_changed, lengths_of, AreSameBut, IsThere, extended, pasted};
+ghost use Rattle.odb_memstore.specs.Shelf.{HasRoomTo, LosesNoSpace};
 ghost use Rattle.odb_memstore.specs.Layout.{held_length, place_of, start_of, length_of, Enters};
 
 use std::alloc::{AllocError, Global};
@@ -24,8 +25,8 @@ struct Spot {
 
 /// Numbered files, each with its bytes.
 ///
-/// All lie in one piece of memory, one behind another in the order in which they came: a file that grows moves those
-/// behind it.
+/// All lie in one piece of memory, one behind another in the order in which they came: a file that
+/// grows moves those behind it.
 #[derive(Drop)]
 pub(crate) struct Files {
     held: Vec<Held>,
@@ -120,12 +121,10 @@ impl Files {
     pub(crate) fn write(&mut self, file: u32, at: usize, piece: &[u8])
         requires end { at + length piece.now < 2 ^ 63 }
         requires place { length self.old.files < self.old.places }
-        requires room { lengths_of self.old.files + (at + length piece.now - length (bytes_of self.old.files file))
-            ≤ self.old.room }
+        requires room { HasRoomTo self.old file (at + length piece.now) }
         ensures files { self.new.files
-            ≡ with_bytes self.old.files file (overwritten at piece.now (bytes_of self.old.files file)) }
-        ensures places { self.old.places ≤ self.new.places }
-        ensures room { self.old.room ≤ self.new.room }
+            ≡ with_changed self.old.files file (overwritten at piece.now) }
+        ensures space { LosesNoSpace self.old self.new }
     {
         self.grow(file, at + piece.len());
         self.copy_in(file, at, piece);
@@ -136,8 +135,7 @@ impl Files {
         requires place { length self.old.files < self.old.places }
         requires room { lengths_of self.old.files + length bytes.now ≤ self.old.room }
         ensures files { self.new.files ≡ with_bytes self.old.files file bytes.now }
-        ensures places { self.old.places ≤ self.new.places }
-        ensures room { self.old.room ≤ self.new.room }
+        ensures space { LosesNoSpace self.old self.new }
     {
         self.cut(file);
         self.write(file, 0, bytes);
@@ -146,8 +144,7 @@ impl Files {
     /// Makes places for so many more files, and room for so many more bytes.
     pub(crate) fn reserve(&mut self, files: usize, bytes: usize) -> Result<(), AllocError>
         ensures files { self.new.files ≡ self.old.files }
-        ensures places { self.old.places ≤ self.new.places }
-        ensures room { self.old.room ≤ self.new.room }
+        ensures space { LosesNoSpace self.old self.new }
         ensures more_places { OnOk result (length self.old.files + files ≤ self.new.places) }
         ensures more_room { OnOk result (lengths_of self.old.files + bytes ≤ self.new.room) }
     {
@@ -177,11 +174,10 @@ impl Files {
     /// Takes all its bytes from the file.
     fn cut(&mut self, file: u32)
         ensures empty { bytes_of self.new.files file ≡ [] }
-        ensures same { (bytes : List ℕ) → with_bytes self.new.files file bytes ≡ with_bytes self.old.files file bytes }
+        ensures same { AreSameBut file self.old.files self.new.files }
         ensures count { length self.new.files ≡ length self.old.files }
         ensures total { lengths_of self.new.files ≤ lengths_of self.old.files }
-        ensures places { self.old.places ≤ self.new.places }
-        ensures room { self.old.room ≤ self.new.room }
+        ensures space { LosesNoSpace self.old self.new }
     {
         let spot = spot_of(&self.held, file);
         if spot.len > 0 {
@@ -193,10 +189,9 @@ impl Files {
     /// Makes the file at least so long, with zeros behind what it has.
     pub(crate) fn grow(&mut self, file: u32, end: usize)
         requires place { length self.old.files < self.old.places }
-        requires room { lengths_of self.old.files + (end - length (bytes_of self.old.files file)) ≤ self.old.room }
-        ensures files { self.new.files ≡ with_bytes self.old.files file (extended end (bytes_of self.old.files file)) }
-        ensures places { self.old.places ≤ self.new.places }
-        ensures room { self.old.room ≤ self.new.room }
+        requires room { HasRoomTo self.old file end }
+        ensures files { self.new.files ≡ with_changed self.old.files file (extended end) }
+        ensures space { LosesNoSpace self.old self.new }
     {
         let spot = enter(&mut self.held, file);
         if end > spot.len {
@@ -209,10 +204,8 @@ impl Files {
     fn copy_in(&mut self, file: u32, at: usize, piece: &[u8])
         requires there { IsThere self.old.files file }
         requires within { at + length piece.now ≤ length (bytes_of self.old.files file) }
-        ensures files { self.new.files
-            ≡ with_bytes self.old.files file (pasted at piece.now (bytes_of self.old.files file)) }
-        ensures places { self.old.places ≤ self.new.places }
-        ensures room { self.old.room ≤ self.new.room }
+        ensures files { self.new.files ≡ with_changed self.old.files file (pasted at piece.now) }
+        ensures space { LosesNoSpace self.old self.new }
     {
         let spot = spot_of(&self.held, file);
         paste(&mut self.bytes, spot.start + at, piece);
@@ -252,7 +245,8 @@ fn paste(bytes: &mut Vec<u8>, at: usize, piece: &[u8])
 fn insert_zeros(bytes: &mut Vec<u8>, at: usize, n: usize)
     requires within { at ≤ vec_len bytes.old }
     requires room { vec_len bytes.old + n ≤ vec_capacity bytes.old }
-    ensures bytes { bytes.new.items ≡ take at bytes.old.items ++ replicate n 0 ++ drop at bytes.old.items }
+    ensures bytes { bytes.new.items
+        ≡ take at bytes.old.items ++ replicate n 0 ++ drop at bytes.old.items }
     ensures capacity { vec_capacity bytes.old ≤ vec_capacity bytes.new }
 {
     if bytes.resize(bytes.len() + n, 0).is_err() {

@@ -1,8 +1,7 @@
-// A host in memory: how it is made, and what it owes to each call of a trait.
+//! A host in memory: how it is made, and what it owes to each call of a trait.
 ghost use Rattle.std.specs.Prelude.{◌≡◌, ◌+◌, ◌≤◌, ◌^◌, ◌++◌, ◌∷◌, [], ℕ, Some, length, vec_len, vec_capacity, not, take, IfOk, OnOk, OnErr, is_some, IfSome};
 ghost use Rattle.odb_memstore.specs.Recording.{fails};
-ghost use Rattle.odb_device.specs.World.{empty_file, file_of};
-ghost use Rattle.odb_memstore.specs.Tape.{fresh, file_now, world_of};
+ghost use Rattle.odb_memstore.specs.Tape.{fresh, file_now, HasEmptyFiles};
 ghost use Rattle.odb_memstore.specs.Calls.{is_past_write, fails_to_write, after_ask, after_write, next_input, after_take, fails_to_say, after_say};
 ghost use Rattle.odb_memstore.specs.Standing.{IsBare, IsWhole};
 
@@ -16,17 +15,19 @@ use std::marker::Model;
 
 /// Files and a console in memory, which record each call and tell all.
 ///
-/// The calls of the store and of the console are numbered together from 0, in their order. `Failed` is answered just
-/// where the number of the call is listed, where no place is left on the record, and where a `write_at` or a `say` finds
-/// no room. It changes no bytes, and raises the count by one until this stands at 2^64 - 1.
+/// The calls of the store and of the console are numbered together from 0, in their order. `Failed`
+/// is answered just where the number of the call is listed, where no place is left on the record,
+/// and where a `write_at` or a `say` finds no room. It changes no bytes, and raises the count by
+/// one until this stands at 2^64 - 1.
 ///
-/// A call that is listed stands on the record: the range of a `write_at` may then hold anything after a crash, and a
-/// `sync` settles nothing. A call past its place or room isn't recorded and leaves the images too; one of the store
-/// counts as a fault of each file. A `write_at` is past its room where the lengths of all files, or those of all pieces
-/// written, would be above the room together, a `say` where the bytes said would be.
+/// A call that is listed stands on the record: the range of a `write_at` may then hold anything
+/// after a crash, and a `sync` settles nothing. A call past its place or room isn't recorded and
+/// leaves the images too; one of the store counts as a fault of each file. A `write_at` is past its
+/// room where the lengths of all files, or those of all pieces written, would be above the room
+/// together, a `say` where the bytes said would be.
 ///
-/// No call of the traits takes memory. Each takes a pass over the numbers listed, and one of the store a pass over the
-/// entries of the files; a `write_at` that makes a file longer moves all that lies behind it.
+/// Each call of the traits takes a pass over the numbers listed, and one of the store a pass over
+/// the entries of the files; a `write_at` that makes a file longer moves all that lies behind it.
 #[derive(Drop)]
 pub struct MemHost {
     pub(crate) room: usize,
@@ -61,11 +62,11 @@ impl Outside for MemHost {
 impl MemHost {
     /// A host without files, input and calls.
     ///
-    /// It takes memory for `room` bytes of all files together, for as many of all pieces written and as many of all that
-    /// is said, and for `calls` calls on the record.
+    /// It takes memory for `room` bytes of all files together, for as many of all pieces written
+    /// and as many of all that is said, and for `calls` calls on the record.
     pub fn new(alloc: Global, room: u64, calls: u32) -> Result<MemHost, MemError>
         ensures fresh { IfOk result (λ host. host ≡ fresh room calls []) }
-        ensures empty { IfOk result (λ host. (file : ℕ) → file_of file (world_of host) ≡ Some empty_file) }
+        ensures empty { IfOk result HasEmptyFiles }
     {
         let files = Files::new(alloc, 0, 0)?;
         Ok(MemHost::with_files(alloc, room as usize, calls, files)?)
@@ -97,7 +98,8 @@ impl MemHost {
 }
 
 impl MemHost {
-    /// Records a call that needs no room, or counts it where no place is left, and answers whether it is to go on.
+    /// Records a call that needs no room, or counts it where no place is left, and answers whether
+    /// it is to go on.
     pub(crate) fn ask(&mut self, call: Call) -> bool
         requires { IsBare call }
         ensures whole { IsWhole self.old }

@@ -1,6 +1,8 @@
-//! A host in memory, a store without a console, and a link: each records what is called, and tells all.
+//! A host in memory, a store without a console, and a link: each records what is called, and tells
+//! all.
 //!
 //! So a host tells all that a crash at any of its calls may leave, and tests may choose among it.
+//! A call without `alloc` takes no memory.
 #![tactic(auto)]
 
 mod console;

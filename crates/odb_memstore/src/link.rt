@@ -1,9 +1,9 @@
-// A link in memory.
+//! A link in memory.
 ghost use Rattle.std.specs.Prelude.{◌≡◌, ◌∷◌, [], ◌++◌, ◌<◌, ◌≤◌, ◌==◌, ◌↔◌, length, take, IfOk, OnOk, OnErr, IsErr, IsTrue};
 ghost use Rattle.std.specs.List.{list_any};
 ghost use Rattle.odb_device.specs.Counts.{Rose};
 ghost use Rattle.odb_device.specs.Connections.{Receives, ReceivesNothing, EndsReceiving, Sends, SendsNothing};
-ghost use Rattle.odb_memstore.specs.Line.{new_line, wire_of, is_next_listed, fails_to_send, next_received, after_receive, after_send};
+ghost use Rattle.odb_memstore.specs.Line.{new_line, wire_of, with_listed, is_next_listed, fails_to_send, ReceivesNext, after_send};
 
 use crate::MemError;
 use crate::copying::{add, copy_from};
@@ -13,10 +13,10 @@ use std::marker::Model;
 
 /// A link over two lists of bytes: what is received, and what was sent.
 ///
-/// Its calls of `receive` and `send` are numbered together from 0, those too that fail; the number stands still at
-/// 2^64 - 1. `Failed` is answered just where the call's number is listed, and where a whole piece that is sent doesn't
-/// fit into the room left. Then nothing is received or sent, and the count of faults rises by one. No call of the trait
-/// takes memory.
+/// Its calls of `receive` and `send` are numbered together from 0, those too that fail; the number
+/// stands still at 2^64 - 1. `Failed` is answered just where the call's number is listed, and where
+/// a whole piece that is sent doesn't fit into the room left. Then nothing is received or sent, and
+/// the count of faults rises by one.
 #[derive(Drop)]
 pub struct MemLink {
     input: Vec<u8>,
@@ -50,7 +50,8 @@ impl Model for MemLink {
 }
 
 impl MemLink {
-    /// A link on which these bytes are received, and up to `room` bytes may be sent. It takes memory for both.
+    /// A link on which these bytes are received, and up to `room` bytes may be sent. It takes
+    /// memory for both.
     pub fn new(alloc: Global, input: &[u8], room: u64) -> Result<MemLink, MemError>
         ensures { IfOk result (λ link. link ≡ new_line input.now room) }
     {
@@ -68,7 +69,7 @@ impl MemLink {
 
     /// Lists a call that is to fail, by its number from 0.
     pub fn fail(&mut self, _alloc: Global, call: u32) -> Result<(), MemError>
-        ensures ok { OnOk result (self.new ≡ record self.old { failing = self.old.failing ++ call ∷ [] }) }
+        ensures ok { OnOk result (self.new ≡ with_listed call self.old) }
         ensures err { OnErr result (self.new ≡ self.old) }
     {
         self.failing.push(call).map_err(|_| MemError::NoMemory)
@@ -90,13 +91,13 @@ impl Link for MemLink {
         ensures count { (wire_of self.old).faults ≤ (wire_of self.new).faults }
         ensures output { SendsNothing (wire_of self.old) (wire_of self.new) }
         ensures bound { IfOk result (λ n. n ≤ length out.new) }
-        ensures received { IfOk result (λ n. Receives (take n out.new) (wire_of self.old) (wire_of self.new)) }
+        ensures received { IfOk result
+            (λ n. Receives (take n out.new) (wire_of self.old) (wire_of self.new)) }
         ensures ended { IfOk result (λ n. EndsReceiving n (wire_of self.old) (wire_of self.new)) }
         ensures failed { OnErr result (ReceivesNothing (wire_of self.old) (wire_of self.new)) }
         ensures cause { OnErr result (Rose (wire_of self.old).faults (wire_of self.new).faults) }
         ensures fails { IsErr result ↔ IsTrue (is_next_listed self.old) }
-        ensures bytes { IfOk result (λ n. take n out.new ≡ next_received (length out.old) self.old) }
-        ensures next { self.new ≡ after_receive (length out.old) self.old }
+        ensures next { ReceivesNext (length out.old) out.new result self.old self.new }
     {
         let listed = is_listed(&self.failing, self.calls);
         self.calls = self.calls.saturating_add(1);
@@ -115,7 +116,8 @@ impl Link for MemLink {
         ensures count { (wire_of self.old).faults ≤ (wire_of self.new).faults }
         ensures input { ReceivesNothing (wire_of self.old) (wire_of self.new) }
         ensures bound { IfOk result (λ n. (0 < n) × (n ≤ length bytes.now)) }
-        ensures sent { IfOk result (λ n. Sends (take n bytes.now) (wire_of self.old) (wire_of self.new)) }
+        ensures sent { IfOk result
+            (λ n. Sends (take n bytes.now) (wire_of self.old) (wire_of self.new)) }
         ensures failed { OnErr result (SendsNothing (wire_of self.old) (wire_of self.new)) }
         ensures cause { OnErr result (Rose (wire_of self.old).faults (wire_of self.new).faults) }
         ensures fails { IsErr result ↔ IsTrue (fails_to_send (length bytes.now) self.old) }

@@ -1,10 +1,10 @@
-// Files in memory, with no console beside them.
+//! Files in memory, with no console beside them.
 ghost use Rattle.std.specs.Prelude.{◌≡◌, ◌+◌, ◌^◌, ◌≤◌, ℕ, ◌↔◌, [], Some, length, IfOk, OnOk, OnErr, IsErr, IsTrue};
-ghost use Rattle.odb_device.specs.World.{empty_file, file_of};
+ghost use Rattle.odb_device.specs.World.{file_of};
 ghost use Rattle.odb_device.specs.Calls.{CallsOn, HasCause, Stays, Writes, Tears, Keeps, Unsettles, HasLength, HasRead};
 ghost use Rattle.odb_memstore.specs.Recording.{fails};
 ghost use Rattle.odb_memstore.specs.Replay.{settled};
-ghost use Rattle.odb_memstore.specs.Tape.{fresh, file_now, world_of};
+ghost use Rattle.odb_memstore.specs.Tape.{fresh, IsFreshOf, HasEmptyFiles, file_now, world_of};
 ghost use Rattle.odb_memstore.specs.Calls.{fails_to_write, file_after_write, file_after_sync, after_ask, after_write};
 ghost use Rattle.odb_memstore.specs.Setting.{with_failing, with_file, LeavesOthers};
 ghost use Rattle.odb_memstore.specs.Crash.{LeavesDigits, LeavesImages};
@@ -38,7 +38,7 @@ impl MemStore {
     /// A store without files and calls; `MemHost::new` says more.
     pub fn new(alloc: Global, room: u64, calls: u32) -> Result<MemStore, MemError>
         ensures fresh { IfOk result (λ store. store ≡ fresh room calls []) }
-        ensures empty { IfOk result (λ store. (file : ℕ) → file_of file (world_of store) ≡ Some empty_file) }
+        ensures empty { IfOk result HasEmptyFiles }
     {
         Ok(MemStore {
             host: MemHost::new(alloc, room, calls)?,
@@ -60,11 +60,12 @@ impl MemStore {
         self.host.file(file)
     }
 
-    /// Gives a file these bytes, and takes them for those that it had before the first call; `MemHost::set_file` says
-    /// more.
+    /// Gives a file these bytes, and takes them for those that it had before the first call;
+    /// `MemHost::set_file` says more.
     pub fn set_file(&mut self, alloc: Global, file: u32, bytes: &[u8]) -> Result<(), MemError>
         ensures ok { OnOk result (self.new ≡ with_file file bytes.now self.old) }
-        ensures on_disk { OnOk result (file_of file (world_of self.new) ≡ Some (settled bytes.now)) }
+        ensures on_disk { OnOk result
+            (file_of file (world_of self.new) ≡ Some (settled bytes.now)) }
         ensures others { OnOk result (LeavesOthers file (world_of self.old) (world_of self.new)) }
         ensures err { OnErr result (self.new ≡ self.old) }
     {
@@ -85,10 +86,11 @@ impl MemStore {
         self.host.calls()
     }
 
-    /// The store as a crash behind the first so many recorded calls leaves it; `MemHost::crash` says more.
+    /// The store as a crash behind the first so many recorded calls leaves it; `MemHost::crash`
+    /// says more.
     pub fn crash(&self, alloc: Global, calls: u32, pick: u64) -> Result<MemStore, MemError>
         requires { calls ≤ length self.now.recording.calls }
-        ensures fresh { IfOk result (λ store. store ≡ fresh self.now.room self.now.recording.places store.start) }
+        ensures fresh { IfOk result (IsFreshOf self.now) }
         ensures files { IfOk result (LeavesDigits self.now calls pick) }
         ensures images { IfOk result (LeavesImages self.now calls) }
     {
@@ -129,8 +131,10 @@ impl Store for MemStore {
     fn write_at(&mut self, file: u32, at: u64, bytes: &[u8]) -> Result<(), Failed>
         requires { at + length bytes.now ≤ 2 ^ 40 }
         ensures call { CallsOn file (world_of self.old) (world_of self.new) }
-        ensures written { OnOk result (Writes file at bytes.now (world_of self.old) (world_of self.new)) }
-        ensures torn { OnErr result (Tears file at (length bytes.now) (world_of self.old) (world_of self.new)) }
+        ensures written { OnOk result
+            (Writes file at bytes.now (world_of self.old) (world_of self.new)) }
+        ensures torn { OnErr result
+            (Tears file at (length bytes.now) (world_of self.old) (world_of self.new)) }
         ensures cause { HasCause file (world_of self.old) (world_of self.new) result }
         ensures fails { IsErr result ↔ IsTrue (fails_to_write file at (length bytes.now) self.old) }
         ensures leaves { file_now self.new file ≡ file_after_write file at bytes.now self.old }

@@ -1,4 +1,4 @@
-// The record of the calls made, and which of them are to fail.
+//! The record of the calls made, and which of them are to fail.
 ghost use Rattle.std.specs.Prelude.{◌≡◌, ◌==◌, ◌<◌, [], ◌∷◌, ◌++◌, length, map, IfOk, OnOk, OnErr};
 ghost use Rattle.std.specs.List.{list_any};
 ghost use Rattle.odb_memstore.specs.Recording.{is_on, forgotten};
@@ -9,11 +9,13 @@ use std::marker::Model;
 /// What was called.
 #[derive(Clone, Copy, Debug, PartialEq, Eq)]
 pub enum Call {
-    /// `length` or `read_at`, which leave the file; or any call on a file whose bytes `set_file` has given since.
+    /// `length` or `read_at`, which leave the file; or any call on a file whose bytes `set_file`
+    /// has given since.
     Look {
         file: u32,
     },
-    /// `write_at`, from the byte `at` of the file on. The bytes are `len` of the pieces kept, from `from` on.
+    /// `write_at`, from the byte `at` of the file on. The bytes are `len` of the pieces kept, from
+    /// `from` on.
     Write {
         file: u32,
         at: u64,
@@ -41,7 +43,8 @@ pub struct Recorded {
     pub failed: bool,
 }
 
-/// How many calls found no place or no room, and so aren't on the record; each count stands still at its type's end.
+/// How many calls found no place or no room, and so aren't on the record; each count stands still
+/// at its type's end.
 #[derive(Clone, Copy, Debug, PartialEq, Eq)]
 pub struct Refused {
     /// Calls of the store, on whichever file.
@@ -75,13 +78,15 @@ impl Model for Recorder {
     } };
 
     ghost invariant = { λ r.
-        (r.places < 2 ^ 32) × (r.places ≤ vec_capacity r.calls) × (length r.calls.items ≤ r.places) };
+        (r.places < 2 ^ 32)
+        × (r.places ≤ vec_capacity r.calls)
+        × (length r.calls.items ≤ r.places) };
 }
 
 impl Recorder {
     ghost use Rattle.std.specs.Prelude.{◌≤◌, ◌+◌, ◌-◌, ◌^◌, min, not};
-    ghost use Rattle.odb_memstore.specs.Recording.{no_calls, asked, refused, fails, is_full, is_on};
-    ghost use Rattle.odb_memstore.specs.Tape.{failures};
+    ghost use Rattle.odb_memstore.specs.Recording.{no_calls, asked, refused, fails, is_full, places_left, with_listed};
+    ghost use Rattle.odb_memstore.specs.Tape.{faults_on};
 
     /// An empty record with so many places.
     pub(crate) fn new(alloc: Global, places: u32) -> Result<Recorder, AllocError>
@@ -101,7 +106,7 @@ impl Recorder {
 
     /// Lists a call that is to fail, by its number from 0.
     pub(crate) fn fail(&mut self, call: u32) -> Result<(), AllocError>
-        ensures ok { OnOk result (self.new ≡ record self.old { failing = self.old.failing ++ call ∷ [] }) }
+        ensures ok { OnOk result (self.new ≡ with_listed call self.old) }
         ensures err { OnErr result (self.new ≡ self.old) }
     {
         self.failing.push(call)?;
@@ -117,7 +122,7 @@ impl Recorder {
 
     /// How many places are left.
     pub(crate) fn places_left(&self) -> usize
-        ensures left { result ≡ self.now.places - length self.now.calls }
+        ensures left { result ≡ places_left self.now }
         ensures few { result < 2 ^ 32 }
     {
         self.places - self.calls.len()
@@ -132,9 +137,10 @@ impl Recorder {
         self.calls.as_slice()
     }
 
-    /// How many calls on a file failed, and how many of the store weren't recorded, up to the end of the type.
+    /// How many calls on a file failed, and how many of the store weren't recorded, up to the end
+    /// of the type.
     pub(crate) fn faults(&self, file: u32) -> u64
-        ensures { result ≡ min (failures (is_on file) self.now.calls + self.now.refused.store) (2 ^ 64 - 1) }
+        ensures { result ≡ faults_on file self.now }
     {
         let failed = self
             .calls

@@ -1,4 +1,4 @@
-// The calls of a host in memory that tests make.
+//! The calls of a host in memory that tests make.
 ghost use Rattle.std.specs.Prelude.{◌≡◌, Some, length, OnOk, OnErr};
 ghost use Rattle.odb_device.specs.World.{file_of, present};
 ghost use Rattle.odb_memstore.specs.Replay.{settled};
@@ -9,7 +9,8 @@ use crate::{MemError, MemHost};
 use std::alloc::Global;
 
 impl MemHost {
-    /// Lists a call that is to fail: its number on the record, from 0. A number that is passed has no effect any more.
+    /// Lists a call that is to fail: its number on the record, from 0. A number that is passed has
+    /// no effect any more.
     pub fn fail(&mut self, _alloc: Global, call: u32) -> Result<(), MemError>
         ensures ok { OnOk result (self.new ≡ with_failing call self.old) }
         ensures err { OnErr result (self.new ≡ self.old) }
@@ -36,12 +37,14 @@ impl MemHost {
 
     /// Gives a file these bytes, and takes them for those that it had before the first call.
     ///
-    /// So they are on the disk, also after a crash at an earlier call. The calls recorded on this file keep their numbers
-    /// and places, and count as looks. No room is needed for the bytes, but a later `write_at` counts them with those of
-    /// the other files. It takes a pass over the record, and memory for the bytes twice.
+    /// So they are on the disk, also after a crash at an earlier call. The calls recorded on this
+    /// file keep their numbers and places, and count as looks. No room is needed for the bytes, but
+    /// a later `write_at` counts them with those of the other files. It takes a pass over the
+    /// record, and memory for the bytes twice.
     pub fn set_file(&mut self, _alloc: Global, file: u32, bytes: &[u8]) -> Result<(), MemError>
         ensures ok { OnOk result (self.new ≡ with_file file bytes.now self.old) }
-        ensures on_disk { OnOk result (file_of file (world_of self.new) ≡ Some (settled bytes.now)) }
+        ensures on_disk { OnOk result
+            (file_of file (world_of self.new) ≡ Some (settled bytes.now)) }
         ensures others { OnOk result (LeavesOthers file (world_of self.old) (world_of self.new)) }
         ensures err { OnErr result (self.new ≡ self.old) }
     {
@@ -62,7 +65,8 @@ impl MemHost {
         self.said.as_slice()
     }
 
-    /// A file's count of faults: its calls that failed, and all calls of the store that found no place or no room.
+    /// A file's count of faults: its calls that failed, and all calls of the store that found no
+    /// place or no room.
     ///
     /// It takes a pass over the record.
     pub fn faults(&self, file: u32) -> u64

@@ -1,4 +1,4 @@
-// The files of a host in memory.
+//! The files of a host in memory.
 ghost use Rattle.std.specs.Prelude.{◌≡◌, ◌+◌, ◌^◌, ◌≤◌, ◌↔◌, length, IfOk, OnOk, OnErr, IsErr, IsTrue};
 ghost use Rattle.odb_device.specs.World.{file_of};
 ghost use Rattle.odb_device.specs.Calls.{CallsOn, HasCause, Stays, Writes, Tears, Keeps, Unsettles, HasLength, HasRead};
@@ -48,8 +48,10 @@ impl Store for MemHost {
     fn write_at(&mut self, file: u32, at: u64, bytes: &[u8]) -> Result<(), Failed>
         requires { at + length bytes.now ≤ 2 ^ 40 }
         ensures call { CallsOn file (world_of self.old) (world_of self.new) }
-        ensures written { OnOk result (Writes file at bytes.now (world_of self.old) (world_of self.new)) }
-        ensures torn { OnErr result (Tears file at (length bytes.now) (world_of self.old) (world_of self.new)) }
+        ensures written { OnOk result
+            (Writes file at bytes.now (world_of self.old) (world_of self.new)) }
+        ensures torn { OnErr result
+            (Tears file at (length bytes.now) (world_of self.old) (world_of self.new)) }
         ensures cause { HasCause file (world_of self.old) (world_of self.new) result }
         ensures fails { IsErr result ↔ IsTrue (fails_to_write file at (length bytes.now) self.old) }
         ensures leaves { file_now self.new file ≡ file_after_write file at bytes.now self.old }

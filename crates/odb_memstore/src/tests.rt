@@ -1,4 +1,4 @@
-// Each call of a host, a store and a link in memory.
+//! Each call of a host, a store and a link in memory.
 ghost use Rattle.std.specs.Prelude.{◌+◌, ◌^◌, ◌≤◌, length};
 
 use super::*;
@@ -16,16 +16,6 @@ fn writes<S: Store>(store: &mut S, file: u32, at: u64, bytes: &[u8]) -> bool
 /// Syncs the file.
 fn syncs<S: Store>(store: &mut S, file: u32) -> bool {
     store.sync(file).is_ok()
-}
-
-/// Finds these bytes, and no more, in the file.
-fn reads<S: Store>(store: &mut S, file: u32, bytes: &[u8]) -> bool {
-    let mut out = [0; 8];
-    let is_as_long = store.length(file) == Ok(bytes.len() as u64);
-    match store.read_at(file, 0, &mut out) {
-        Ok(n) => is_as_long && &out[..n] == bytes,
-        Err(_) => false,
-    }
 }
 
 /// Takes these bytes where there is room for three.
@@ -71,81 +61,12 @@ fn counts(host: &MemHost, faults: [u64; 2], calls: u32) -> bool {
     [host.faults(3), host.faults(4)] == faults && host.calls() == calls
 }
 
-/// Leaves these bytes of the files 0 and 1 where a crash comes behind so many calls.
-fn leaves(
-    store: &MemStore,
-    alloc: Global,
-    calls: u32,
-    pick: u64,
-    first: &[u8],
-    second: &[u8],
-) -> bool {
-    match store.crash(alloc, calls.min(store.calls()), pick) {
-        Ok(left) => left.file(0) == first && left.file(1) == second && left.faults(0) == 0,
-        Err(_) => false,
-    }
-}
-
 /// A host with this input, whose second call is to fail.
 fn host_with(alloc: Global, input: &[u8]) -> Result<MemHost, MemError> {
     let mut host = MemHost::new(alloc, 16, 16)?;
     host.feed(alloc, input)?;
     host.fail(alloc, 1)?;
     Ok(host)
-}
-
-/// A store whose file 0 has these bytes, and whose second call is to fail.
-fn store_with(alloc: Global, bytes: &[u8]) -> Result<MemStore, MemError> {
-    let mut store = MemStore::new(alloc, 32, 8)?;
-    store.set_file(alloc, 0, bytes)?;
-    store.fail(alloc, 1)?;
-    Ok(store)
-}
-
-#[test]
-fn counts_a_listed_sync(rt: HostRuntime) -> Result<(), Fail> {
-    let mut host = host_with(rt.alloc(), b"")?;
-    assert!(rt; writes(&mut host, 3, 0, b"ab"));
-    assert!(rt; !syncs(&mut host, 3));
-    assert!(rt; counts(&host, [1, 0], 2));
-    assert!(rt; syncs(&mut host, 3));
-    assert!(rt; counts(&host, [1, 0], 3));
-    Ok(())
-}
-
-#[test]
-fn leaves_what_the_digits_say(rt: HostRuntime) -> Result<(), Fail> {
-    let mut store = store_with(rt.alloc(), b"abcd")?;
-    assert!(rt; writes(&mut store, 0, 2, b"WXYZ"));
-    assert!(rt; !writes(&mut store, 0, 7, b"!"), "it is listed");
-    assert!(rt; reads(&mut store, 0, b"abWXYZ"));
-    for (pick, left) in [
-        (0, b"abcd\0\0\0\0"),
-        (1, b"abWXYZ\0\0"),
-        (2, b"ab\xA5\xA5\xA5\xA5\0\0"),
-        (3, b"abcd\0\0\0!"),
-        (7, b"abWXYZ\0\xA5"),
-    ] {
-        assert!(rt;
-            leaves(&store, rt.alloc(), 2, pick, left, b""),
-            "pick {pick}"
-        );
-    }
-    Ok(())
-}
-
-#[test]
-fn leaves_what_was_synced(rt: HostRuntime) -> Result<(), Fail> {
-    let mut store = store_with(rt.alloc(), b"abcd")?;
-    assert!(rt; writes(&mut store, 0, 0, b"WX"));
-    assert!(rt; !syncs(&mut store, 0), "it is listed");
-    assert!(rt; leaves(&store, rt.alloc(), 2, 2, b"\xA5\xA5cd", b""));
-    assert!(rt; syncs(&mut store, 0));
-    assert!(rt; writes(&mut store, 1, 1, b"new"));
-    assert!(rt; leaves(&store, rt.alloc(), 4, 0, b"WXcd", b"\0\0\0\0"));
-    assert!(rt; leaves(&store, rt.alloc(), 4, 1, b"WXcd", b"\0new"));
-    assert!(rt; leaves(&store, rt.alloc(), 0, 1, b"abcd", b""));
-    Ok(())
 }
 
 #[test]

@@ -29,10 +29,11 @@ use Rattle.odb_model.specs.declared.predicate.Predicate.TheOpen.{Predicate-F}
 use Rattle.odb_model.specs.declared.predicate.Predicate.TheVariants.{Test, Null as IsNull, rolls-Test}
 use Rattle.odb_model.specs.declared.statement.Statement.{Statement}
 use Rattle.odb_model.specs.declared.statement.Statement.TheVariants.{Start, Commit, Select, Insert, Rollback, Update, Delete, CreateDatabank, CreateTable, DropTable, CreateShadow, ShadowOnline, ShadowOffline, ShadowMaster, DropShadow, CreateBackup, BackupReady, DropBackup, Restore}
-use Rattle.odb_model.specs.State.{Place, State, place_cmp, place_of, changed, after_writes, is_in, is_in_any, AgreeOn, part_in, rows_of}
+use Rattle.odb_model.specs.declared.table_key.TableKey.{TableKey}
+use Rattle.odb_model.specs.State.{State, table_key_cmp, table_key_of, changed, after_writes, is_in, is_in_any, AgreeOn, part_in, rows_of}
 use Rattle.odb_model.specs.Table.{Column, Table, kv, table_of, is_named, in_columns, key_of}
-use Rattle.odb_model.specs.Truth.{truth_if, holds, compared, operand_value, truth_step, truth_of, is_true, keeps}
-use Rattle.odb_model.specs.Meaning.{meaning, refused, selected, inserted, put_of, kept_rows, has_duplicate, different, most_writes, told}
+use Rattle.odb_model.specs.Truth.{truth_if, holds, compared, operand_value, truth_step, truth_of, is_true, matches}
+use Rattle.odb_model.specs.Meaning.{meaning, refused, selected, inserted, put_of, matching_rows, has_duplicate, different, most_writes, projected}
 use Rattle.odb_model.specs.Reads.{reads, whole, range_of, point_of, points_of, where_range, dictionary_row}
 use Rattle.odb_model.proofs.Replay.{get-changed_at, part_in-same}
 use Rattle.odb_model.proofs.Parts.{filter-map, rows_of-part}
@@ -56,8 +57,8 @@ truth_of-test columns values op left right =
     ap (fold-Predicate Truth (truth_step columns values)) (sym (rolls-Test op left right)) ∙ fold-roll-Predicate Truth (truth_step columns values) (Predicate-F.Test op left right)
 
 -- the values of a row, in column order
-abbrev laid : Place × List Value → List Value
-laid e = in_columns kv.columns e.0.1 e.1
+abbrev laid : TableKey × List Value → List Value
+laid e = in_columns kv.columns e.0.key e.1
 
 -- what is greater than a value lies beyond it
 greater : (o : Ordering) → is_true (truth_if (holds Gt o)) ≡ true → is_lt (ordering_reverse o) ≡ true
@@ -90,27 +91,27 @@ with_true false e = cc
 abbrev beyond_or_whole : Bool → Value → Range
 beyond_or_whole b v = if b then record { table = 5; prefix = []; low = Beyond v; high = Free } else whole kv
 
-module _ (place : Place) (row : List Value) where
+module _ (at : TableKey) (row : List Value) where
   -- the whole table covers every row
-  whole_covers : (keep : Bool) → ((5 == place.0) && keep) ≡ true → is_in (whole kv) place ≡ true
-  whole_covers keep e = with_true (5 == place.0) (and_true (5 == place.0) keep e).0
+  whole_covers : (keep : Bool) → ((5 == at.table) && keep) ≡ true → is_in (whole kv) at ≡ true
+  whole_covers keep e = with_true (5 == at.table) (and_true (5 == at.table) keep e).0
 
   column_covers : (v : Value) (k w n : Bool)
-      → ((5 == place.0) && is_true (compared Gt (if k then unwrap_or (slice_get place.1 0) Null else if w then unwrap_or (slice_get row 0) Null else Null) v)) ≡ true
-      → is_in (beyond_or_whole ((if k then true else if w then false else false) && not n) v) place ≡ true
+      → ((5 == at.table) && is_true (compared Gt (if k then unwrap_or (slice_get at.key 0) Null else if w then unwrap_or (slice_get row 0) Null else Null) v)) ≡ true
+      → is_in (beyond_or_whole ((if k then true else if w then false else false) && not n) v) at ≡ true
   column_covers v true w false e =
-      let parts = and_true (5 == place.0) _ e in
-      both_true (5 == place.0) _ parts.0 (with_true _ (key_beyond place.1 v parts.1))
+      let parts = and_true (5 == at.table) _ e in
+      both_true (5 == at.table) _ parts.0 (with_true _ (key_beyond at.key v parts.1))
   column_covers v true w true e = whole_covers _ e
   column_covers v false true n e = whole_covers _ e
   column_covers v false false n e = whole_covers _ e
 
-  covers : (f : Option Predicate) → ((5 == place.0) && keeps kv.columns f (in_columns kv.columns place.1 row)) ≡ true → is_in (range_of kv f) place ≡ true
+  covers : (f : Option Predicate) → ((5 == at.table) && matches kv.columns f (in_columns kv.columns at.key row)) ≡ true → is_in (range_of kv f) at ≡ true
   covers None e = whole_covers true e
   covers (Some (Test Gt (ColumnOf name) (Literal v))) e =
-      let values = in_columns kv.columns place.1 row in
+      let values = in_columns kv.columns at.key row in
       column_covers v (is_named name (codes "K")) (is_named name (codes "V")) (is_null v)
-      (subst (λ (t : Truth). ((5 == place.0) && is_true t) ≡ true) (truth_of-test kv.columns values Gt (ColumnOf name) (Literal v)) e)
+      (subst (λ (t : Truth). ((5 == at.table) && is_true t) ≡ true) (truth_of-test kv.columns values Gt (ColumnOf name) (Literal v)) e)
   covers (Some (Test Gt (ColumnOf name) (ColumnOf other))) e = whole_covers _ e
   covers (Some (Test Gt (Literal u) right)) e = whole_covers _ e
   covers (Some (Test Eq left right)) e = whole_covers _ e
@@ -124,14 +125,14 @@ module _ (place : Place) (row : List Value) where
   covers (Some (Or' p a q b)) e = whole_covers _ e
 
 -- the rows that a WHERE keeps are among those of its range
-pub kept_rows-part : (f : Option Predicate) (s : State) → kept_rows kv f s
-    ≡ map laid (filter (λ e. (5 == e.0.0) && keeps kv.columns f (laid e)) (entries (part_in (range_of kv f) s)))
-kept_rows-part f s = filter-map laid (keeps kv.columns f) (rows_of 5 s)
-    ∙ ap (map laid) (rows_of-part 5 (range_of kv f) (λ e. keeps kv.columns f (laid e)) (λ e. covers e.0 e.1 f) s)
+pub matching_rows-part : (f : Option Predicate) (s : State) → matching_rows kv f s
+    ≡ map laid (filter (λ e. (5 == e.0.table) && matches kv.columns f (laid e)) (entries (part_in (range_of kv f) s)))
+matching_rows-part f s = filter-map laid (matches kv.columns f) (rows_of 5 s)
+    ∙ ap (map laid) (rows_of-part 5 (range_of kv f) (λ e. matches kv.columns f (laid e)) (λ e. covers e.0 e.1 f) s)
 
 -- the states are alike in a range
 abbrev pub AlikeIn : Range → State → State → Type 0
-AlikeIn range s t = (q : Place) → is_in range q ≡ true → get s q ≡ get t q
+AlikeIn range s t = (q : TableKey) → is_in range q ≡ true → get s q ≡ get t q
 
 pub AgreeOn-head : (r : Range) (rs : List Range) (s t : State) → AgreeOn (r ∷ rs) s t → AlikeIn r s t
 AgreeOn-head r rs s t same q inside = same q (or_left (is_in r q) (is_in_any rs q) inside)
@@ -146,15 +147,15 @@ AgreeOn-cons r rs s t here more q inside =
       | false ↦ λ e i. more q i
     ] refl inside
 
-kept_rows-same : (f : Option Predicate) (s t : State) → AlikeIn (range_of kv f) s t → kept_rows kv f s ≡ kept_rows kv f t
-kept_rows-same f s t same = kept_rows-part f s
-    ∙ ap (λ part. map laid (filter (λ e. (5 == e.0.0) && keeps kv.columns f (laid e)) (entries part))) (part_in-same (range_of kv f) s t same)
-    ∙ sym (kept_rows-part f t)
+matching_rows-same : (f : Option Predicate) (s t : State) → AlikeIn (range_of kv f) s t → matching_rows kv f s ≡ matching_rows kv f t
+matching_rows-same f s t same = matching_rows-part f s
+    ∙ ap (λ part. map laid (filter (λ e. (5 == e.0.table) && matches kv.columns f (laid e)) (entries part))) (part_in-same (range_of kv f) s t same)
+    ∙ sym (matching_rows-part f t)
 
 selected-same : (b : Bool) (what : What) (f : Option Predicate) (s t : State)
     → AgreeOn (where_range (if b then Some kv else None) f) s t → selected (if b then Some kv else None) what f s ≡ selected (if b then Some kv else None) what f t
 selected-same true what f s t same =
-    ap (λ rows. record { reply = told kv.columns what rows; writes = [] }) (kept_rows-same f s t (AgreeOn-head (range_of kv f) [] s t same))
+    ap (λ rows. record { reply = projected kv.columns what rows; writes = [] }) (matching_rows-same f s t (AgreeOn-head (range_of kv f) [] s t same))
 selected-same false what f s t same = refl
 
 -- each value ties with itself, so a key starts with itself
@@ -162,30 +163,30 @@ ties_itself : (key : List Value) → pointwise (eq_by_cmp value_cmp) key key ≡
 ties_itself [] = refl
 ties_itself (x ∷ key) = both_true (eq_by_cmp value_cmp x x) _ (ap is_eq (tied_itself value_cmp_total x)) (ties_itself key)
 
-in_point : (t : Table) (values : List Value) → t.number ≡ 5 → is_in (point_of t values) (place_of (put_of t values)) ≡ true
+in_point : (t : Table) (values : List Value) → t.number ≡ 5 → is_in (point_of t values) (table_key_of (put_of t values)) ≡ true
 in_point t values e =
     both_true (t.number == t.number) _ (same_number t.number)
     (with_true _ (with_true _ (ap (pointwise (eq_by_cmp value_cmp) (key_of t.columns values)) (take-length (key_of t.columns values)) ∙ ties_itself (key_of t.columns values))))
 
 -- a change keeps two states alike where they were
-pub get-changed-same : (s t : State) (place : Place) (row : Option (List Value)) (q : Place) → get s q ≡ get t q → get (changed s place row) q ≡ get (changed t place row) q
-get-changed-same s t place row q same =
-    get-changed_at s place row q ∙ ap (cond (eq_by_cmp place_cmp q place) row) same ∙ sym (get-changed_at t place row q)
+pub get-changed-same : (s t : State) (at : TableKey) (row : Option (List Value)) (q : TableKey) → get s q ≡ get t q → get (changed s at row) q ≡ get (changed t at row) q
+get-changed-same s t at row q same =
+    get-changed_at s at row q ∙ ap (cond (eq_by_cmp table_key_cmp q at) row) same ∙ sym (get-changed_at t at row q)
 
 has_duplicate-same : (tuples : List (List Value)) (s t : State) → AgreeOn (map (point_of kv) tuples) s t → has_duplicate s (map (put_of kv) tuples) ≡ has_duplicate t (map (put_of kv) tuples)
 has_duplicate-same [] s t same = refl
 has_duplicate-same (values ∷ tuples) s t same =
     let w : Write = put_of kv values in
-    let here : get s (place_of w) ≡ get t (place_of w) = AgreeOn-head (point_of kv values) (map (point_of kv) tuples) s t same (place_of w) (in_point kv values refl) in
-    ap (λ o. is_some o || has_duplicate (changed s (place_of w) w.row) (map (put_of kv) tuples)) here
-    ∙ ap (λ b. is_some (get t (place_of w)) || b) (has_duplicate-same tuples (changed s (place_of w) w.row) (changed t (place_of w) w.row)
-    (λ q inside. get-changed-same s t (place_of w) w.row q (AgreeOn-tail (point_of kv values) (map (point_of kv) tuples) s t same q inside)))
+    let here : get s (table_key_of w) ≡ get t (table_key_of w) = AgreeOn-head (point_of kv values) (map (point_of kv) tuples) s t same (table_key_of w) (in_point kv values refl) in
+    ap (λ o. is_some o || has_duplicate (changed s (table_key_of w) w.row) (map (put_of kv) tuples)) here
+    ∙ ap (λ b. is_some (get t (table_key_of w)) || b) (has_duplicate-same tuples (changed s (table_key_of w) w.row) (changed t (table_key_of w) w.row)
+    (λ q inside. get-changed-same s t (table_key_of w) w.row q (AgreeOn-tail (point_of kv values) (map (point_of kv) tuples) s t same q inside)))
 
-inserted-same : (b : Bool) (tuples : List (List Value)) (s t : State) (written : List Place) → AgreeOn (points_of (if b then Some kv else None) tuples) s t
+inserted-same : (b : Bool) (tuples : List (List Value)) (s t : State) (written : List TableKey) → AgreeOn (points_of (if b then Some kv else None) tuples) s t
     → inserted (if b then Some kv else None) tuples s written ≡ inserted (if b then Some kv else None) tuples t written
 inserted-same true tuples s t written same =
     let ws : List Write = map (put_of kv) tuples in
-    ap (λ d. if d then refused Duplicate else if nat_lt most_writes (different (written ++ map place_of ws)) then refused TooManyWrites else record { reply = Done (length ws); writes = ws })
+    ap (λ d. if d then refused Duplicate else if nat_lt most_writes (different (written ++ map table_key_of ws)) then refused TooManyWrites else record { reply = Done (length ws); writes = ws })
     (has_duplicate-same tuples s t same)
 inserted-same false tuples s t written same = refl
 
@@ -211,7 +212,7 @@ reads-same (BackupReady name) s t = refl
 reads-same (DropBackup name) s t = refl
 reads-same (Restore bank name) s t = refl
 
-pub meaning-same : (st : Statement) (s t : State) (written : List Place) → AgreeOn (reads st s) s t → meaning st s written ≡ meaning st t written
+pub meaning-same : (st : Statement) (s t : State) (written : List TableKey) → AgreeOn (reads st s) s t → meaning st s written ≡ meaning st t written
 meaning-same Start s t written same = refl
 meaning-same Commit s t written same = refl
 meaning-same (Select what table f) s t written same =
@@ -235,10 +236,10 @@ meaning-same (DropBackup name) s t written same = refl
 meaning-same (Restore bank name) s t written same = refl
 
 -- the same writes keep states alike
-pub get-after_writes-same : (s t : State) (ws : List Write) (q : Place) → get s q ≡ get t q → get (after_writes s ws) q ≡ get (after_writes t ws) q
+pub get-after_writes-same : (s t : State) (ws : List Write) (q : TableKey) → get s q ≡ get t q → get (after_writes s ws) q ≡ get (after_writes t ws) q
 get-after_writes-same s t [] q same = same
 get-after_writes-same s t (w ∷ ws) q same =
-    get-after_writes-same (changed s (place_of w) w.row) (changed t (place_of w) w.row) ws q (get-changed-same s t (place_of w) w.row q same)
+    get-after_writes-same (changed s (table_key_of w) w.row) (changed t (table_key_of w) w.row) ws q (get-changed-same s t (table_key_of w) w.row q same)
 
 pub AgreeOn-after_writes : (rs : List Range) (s t : State) (ws : List Write) → AgreeOn rs s t → AgreeOn rs (after_writes s ws) (after_writes t ws)
 AgreeOn-after_writes rs s t ws same q inside = get-after_writes-same s t ws q (same q inside)

@@ -10,7 +10,7 @@ use Rattle.odb_model.specs.declared.statement.Statement.{Statement}
 use Rattle.odb_model.specs.State.{after_writes, replay, AgreeOn, writes_in, IsNumberedFrom, IsHistory}
 use Rattle.odb_model.specs.Meaning.{Meaning, meaning}
 use Rattle.odb_model.specs.Reads.{reads}
-use Rattle.odb_model.specs.Transaction.{Exchange, statements_of, replies_of, places, open_meaning, own_from, alone_replies, alone_writes, reads_of, overwrites, first_conflict}
+use Rattle.odb_model.specs.Transaction.{Executed, statements_of, replies_of, table_keys, open_meaning, write_set_from, alone_replies, alone_writes, reads_of, overwrites, first_conflict}
 use Rattle.odb_model.specs.Serial.{HasOpenReplies}
 use Rattle.odb_model.proofs.Replay.{any_writes_in, or_false, get-replay_take}
 use Rattle.odb_model.proofs.Agree.{AgreeOn-cons, AgreeOn-after_writes, meaning-same, reads-same}
@@ -99,28 +99,28 @@ agree_then (range ∷ ranges) n h numbered none =
     (agree_then ranges n h numbered parts.1)
 
 -- the statement means now what it meant then
-meaning_then : (st : Statement) (n : ℕ) (own : List Write) (h : List Entry) → IsHistory h
+meaning_then : (st : Statement) (n : ℕ) (write_set : List Write) (h : List Entry) → IsHistory h
     → list_any (overwrites (map (λ range. record { range = range; number = n }) (reads st (replay (take n h))))) h ≡ false
-    → open_meaning st n own h ≡ meaning st (after_writes (replay h) own) (places own)
-meaning_then st n own h numbered none =
-    meaning-same st (after_writes (replay (take n h)) own) (after_writes (replay h) own) (places own)
-    (subst (λ (ranges : List Range). AgreeOn ranges (after_writes (replay (take n h)) own) (after_writes (replay h) own)) (reads-same st (replay (take n h)) (after_writes (replay (take n h)) own))
-    (AgreeOn-after_writes (reads st (replay (take n h))) (replay (take n h)) (replay h) own (agree_then (reads st (replay (take n h))) n h numbered none)))
+    → open_meaning st n write_set h ≡ meaning st (after_writes (replay h) write_set) (table_keys write_set)
+meaning_then st n write_set h numbered none =
+    meaning-same st (after_writes (replay (take n h)) write_set) (after_writes (replay h) write_set) (table_keys write_set)
+    (subst (λ (ranges : List Range). AgreeOn ranges (after_writes (replay (take n h)) write_set) (after_writes (replay h) write_set)) (reads-same st (replay (take n h)) (after_writes (replay (take n h)) write_set))
+    (AgreeOn-after_writes (reads st (replay (take n h))) (replay (take n h)) (replay h) write_set (agree_then (reads st (replay (take n h))) n h numbered none)))
 
 -- what a transaction does alone at the end of a history that doesn't conflict with it
-pub record DoesAlone (h : List Entry) (own : List Write) (t : List Exchange) : Type 0 where
-  pub replies : alone_replies (replay h) own (statements_of t) ≡ replies_of t
-  pub writes : alone_writes (replay h) own (statements_of t) ≡ own_from h own t
+pub record DoesAlone (h : List Entry) (write_set : List Write) (t : List Executed) : Type 0 where
+  pub replies : alone_replies (replay h) write_set (statements_of t) ≡ replies_of t
+  pub writes : alone_writes (replay h) write_set (statements_of t) ≡ write_set_from h write_set t
 
-pub does_alone : (h : List Entry) (own : List Write) (t : List Exchange) → IsHistory h → HasOpenReplies h own t → list_any (overwrites (reads_of h t)) h ≡ false → DoesAlone h own t
-does_alone h own [] numbered open_replies none = record { replies = refl; writes = refl }
-does_alone h own (a ∷ t) numbered open_replies none =
-    let parts = split_reads (map (λ range. record { range = range; number = a.number }) (reads a.statement (replay (take a.number h)))) (reads_of h t) h none in
-    let then : Meaning = open_meaning a.statement a.number own h in
-    let same : then ≡ meaning a.statement (after_writes (replay h) own) (places own) = meaning_then a.statement a.number own h numbered parts.0 in
-    let more : DoesAlone h (own ++ then.writes) t = does_alone h (own ++ then.writes) t numbered open_replies.2 parts.1 in
+pub does_alone : (h : List Entry) (write_set : List Write) (t : List Executed) → IsHistory h → HasOpenReplies h write_set t → list_any (overwrites (reads_of h t)) h ≡ false → DoesAlone h write_set t
+does_alone h write_set [] numbered open_replies none = record { replies = refl; writes = refl }
+does_alone h write_set (a ∷ t) numbered open_replies none =
+    let parts = split_reads (map (λ range. record { range = range; number = a.snapshot }) (reads a.statement (replay (take a.snapshot h)))) (reads_of h t) h none in
+    let then : Meaning = open_meaning a.statement a.snapshot write_set h in
+    let same : then ≡ meaning a.statement (after_writes (replay h) write_set) (table_keys write_set) = meaning_then a.statement a.snapshot write_set h numbered parts.0 in
+    let more : DoesAlone h (write_set ++ then.writes) t = does_alone h (write_set ++ then.writes) t numbered open_replies.2 parts.1 in
     record {
-      replies = subst (λ (meant : Meaning). (meant.reply ∷ alone_replies (replay h) (own ++ meant.writes) (statements_of t)) ≡ (a.reply ∷ replies_of t)) same
-          (ap (λ r. r ∷ alone_replies (replay h) (own ++ then.writes) (statements_of t)) (sym open_replies.1) ∙ ap (λ rs. a.reply ∷ rs) more.replies);
-      writes = subst (λ (meant : Meaning). alone_writes (replay h) (own ++ meant.writes) (statements_of t) ≡ own_from h own (a ∷ t)) same more.writes;
+      replies = subst (λ (meant : Meaning). (meant.reply ∷ alone_replies (replay h) (write_set ++ meant.writes) (statements_of t)) ≡ (a.reply ∷ replies_of t)) same
+          (ap (λ r. r ∷ alone_replies (replay h) (write_set ++ then.writes) (statements_of t)) (sym open_replies.1) ∙ ap (λ rs. a.reply ∷ rs) more.replies);
+      writes = subst (λ (meant : Meaning). alone_writes (replay h) (write_set ++ meant.writes) (statements_of t) ≡ write_set_from h write_set (a ∷ t)) same more.writes;
     }

@@ -6,8 +6,9 @@ use Rattle.std.specs.FinMap.{FinMap, retain_keys, entries, entries_sorted, get-e
 use Rattle.std.specs.FinMap.Entries.{same_entries, is_sorted-where_key, find-where_key}
 use Rattle.odb_values.specs.declared.value.Value.{Value}
 use Rattle.odb_values.specs.declared.range.Range.{Range}
-use Rattle.odb_model.specs.State.{Place, place_cmp, State, is_in, part_in, rows_of}
-use Rattle.odb_model.proofs.Replay.{place_cmp_total, place_cmp_exact}
+use Rattle.odb_model.specs.declared.table_key.TableKey.{TableKey}
+use Rattle.odb_model.specs.State.{table_key_cmp, State, is_in, part_in, rows_of}
+use Rattle.odb_model.proofs.Replay.{table_key_cmp_total, table_key_cmp_exact}
 
 module _ {A : Type 0} (p q : A → Bool) where
   both_one : (x : A) (a b : Bool) (ps qs : List A) → a ≡ p x → filter p qs ≡ ps → filter p (cond b (x ∷ qs) qs) ≡ cond (b && a) (x ∷ ps) ps
@@ -35,16 +36,16 @@ module _ {A : Type 0} (p q : A → Bool) (same : (x : A) → p x ≡ q x) where
   filter-same (x ∷ xs) = ap (λ b. cond b (x ∷ filter p xs) (filter p xs)) (same x) ∙ ap (λ r. cond (q x) (x ∷ r) r) (filter-same xs)
 
 -- the entries whose keys pass a test are a filter of all entries
-pub entries-retain_keys : {X : Type 0} (s : FinMap place_cmp X) (p : Place → Bool) → entries (retain_keys s p) ≡ filter (λ e. p e.0) (entries s)
+pub entries-retain_keys : {X : Type 0} (s : FinMap table_key_cmp X) (p : TableKey → Bool) → entries (retain_keys s p) ≡ filter (λ e. p e.0) (entries s)
 entries-retain_keys s p =
-    let alike : (q x : Place) → place_cmp q x ≡ Equal → p x ≡ p q = λ q x tied. ap p (sym (place_cmp_exact q x tied)) in
-    same_entries place_cmp place_cmp_total place_cmp_exact _ _ (entries_sorted (retain_keys s p)) (is_sorted-where_key place_cmp p (entries s) (entries_sorted s))
-    (λ q. sym (get-entries (retain_keys s p) q) ∙ get-retain_keys s p q (alike q) ∙ ap (λ o. cond (p q) o None) (get-entries s q) ∙ sym (find-where_key place_cmp p q (alike q) (entries s)))
+    let alike : (q x : TableKey) → table_key_cmp q x ≡ Equal → p x ≡ p q = λ q x tied. ap p (sym (table_key_cmp_exact q x tied)) in
+    same_entries table_key_cmp table_key_cmp_total table_key_cmp_exact _ _ (entries_sorted (retain_keys s p)) (is_sorted-where_key table_key_cmp p (entries s) (entries_sorted s))
+    (λ q. sym (get-entries (retain_keys s p) q) ∙ get-retain_keys s p q (alike q) ∙ ap (λ o. cond (p q) o None) (get-entries s q) ∙ sym (find-where_key table_key_cmp p q (alike q) (entries s)))
 
-module _ (table : ℕ) (range : Range) (keep : Place × List Value → Bool)
-    (covers : (e : Place × List Value) → ((table == e.0.0) && keep e) ≡ true → is_in range e.0 ≡ true) where
-  abbrev pub both : Place × List Value → Bool
-  both e = (table == e.0.0) && keep e
+module _ (table : ℕ) (range : Range) (keep : TableKey × List Value → Bool)
+    (covers : (e : TableKey × List Value) → ((table == e.0.table) && keep e) ≡ true → is_in range e.0 ≡ true) where
+  abbrev pub both : TableKey × List Value → Bool
+  both e = (table == e.0.table) && keep e
 
   narrowed : (a b : Bool) → (a ≡ true → b ≡ true) → (b && a) ≡ a
   narrowed true b h = ap (λ c. c && true) (h refl)
@@ -53,8 +54,8 @@ module _ (table : ℕ) (range : Range) (keep : Place × List Value → Bool)
 
   -- the rows of a table that pass a test lie in a range that covers them
   pub rows_of-part : (s : State) → filter keep (rows_of table s) ≡ filter both (entries (part_in range s))
-  rows_of-part s = ap (filter keep) (entries-retain_keys s (λ place. table == place.0))
-      ∙ filter-filter keep (λ e. table == e.0.0) (entries s)
+  rows_of-part s = ap (filter keep) (entries-retain_keys s (λ at. table == at.table))
+      ∙ filter-filter keep (λ e. table == e.0.table) (entries s)
       ∙ sym (filter-same (λ e. is_in range e.0 && both e) both (λ e. narrowed (both e) (is_in range e.0) (covers e)) (entries s))
       ∙ sym (filter-filter both (λ e. is_in range e.0) (entries s))
       ∙ sym (ap (filter both) (entries-retain_keys s (is_in range)))

@@ -12,20 +12,21 @@ use Rattle.odb_model.specs.declared.write.Write.{Write}
 use Rattle.odb_model.specs.declared.reply.Reply.TheVariants.{Done, Duplicate, TooManyWrites}
 use Rattle.odb_model.specs.declared.statement.Statement.{Statement}
 use Rattle.odb_model.specs.declared.statement.Statement.TheVariants.{Start, Commit, Select, Insert, Rollback, Update, Delete, CreateDatabank, CreateTable, DropTable, CreateShadow, ShadowOnline, ShadowOffline, ShadowMaster, DropShadow, CreateBackup, BackupReady, DropBackup, Restore}
-use Rattle.odb_model.specs.State.{Place, State, place_cmp, place_of}
+use Rattle.odb_model.specs.declared.table_key.TableKey.{TableKey}
+use Rattle.odb_model.specs.State.{State, table_key_cmp, table_key_of}
 use Rattle.odb_model.specs.Table.{is_named, kv}
 use Rattle.odb_model.specs.Meaning.{meaning, refused, selected, inserted, put_of, put_all, has_duplicate, different, most_writes, is_built}
-use Rattle.odb_model.specs.Transaction.{places, last_writes, is_there, net}
+use Rattle.odb_model.specs.Transaction.{table_keys, last_writes, is_there, net}
 use Rattle.odb_model.specs.Storable.{IsNarrow, AreStorable, IsStorableList}
 use Rattle.odb_model.proofs.Parts.{entries-retain_keys}
-use Rattle.odb_model.proofs.Keys.{entries-empty, length-last_writes, IsPlaced, All-last_writes, places_of_entries, keys_ascend, length-filter-le}
+use Rattle.odb_model.proofs.Keys.{entries-empty, length-last_writes, IsAtItsKey, All-last_writes, table_keys_of_entries, keys_ascend, length-filter-le}
 
 pub nothing_stored : AreStorable []
 nothing_stored = record { few = subst (λ (n : ℕ). n ≤ 4096) (sym (ap length (entries-empty (Unit {0})))) (lit≤ tt); narrow = All-nil IsNarrow }
 
 -- a statement without writes
-nothing_more : (own : List Write) → AreStorable own → AreStorable (own ++ [])
-nothing_more own f = subst AreStorable (sym (append-nil own)) f
+nothing_more : (write_set : List Write) → AreStorable write_set → AreStorable (write_set ++ [])
+nothing_more write_set f = subst AreStorable (sym (append-nil write_set)) f
 
 not_above : (a b : ℕ) → nat_lt a b ≡ false → b ≤ a
 not_above a b e = grind (arith, nat_tests)
@@ -34,60 +35,60 @@ not_above a b e = grind (arith, nat_tests)
 abbrev pair : ℤ → ℤ → Write
 pair key value = put_of kv (Int key ∷ Int value ∷ [])
 
-one_more : (key value : ℤ) (own : List Write) (b c : Bool) → nat_lt most_writes (different (places own ++ place_of (pair key value) ∷ [])) ≡ c → AreStorable own
-    → AreStorable (own ++ (cond b (refused Duplicate) (cond c (refused TooManyWrites) (record { reply = Done 1; writes = pair key value ∷ [] }))).writes)
-one_more key value own true c e f = nothing_more own f
-one_more key value own false true e f = nothing_more own f
-one_more key value own false false e f = record {
-  few = subst (λ (ps : List Place). different ps ≤ 4096) (sym (map-append place_of own (pair key value ∷ []))) (not_above most_writes _ e);
-  narrow = All-append IsNarrow own (pair key value ∷ []) f.narrow (All-cons IsNarrow (pair key value) [] (lit≤ tt) (All-nil IsNarrow));
+one_more : (key value : ℤ) (write_set : List Write) (b c : Bool) → nat_lt most_writes (different (table_keys write_set ++ table_key_of (pair key value) ∷ [])) ≡ c → AreStorable write_set
+    → AreStorable (write_set ++ (cond b (refused Duplicate) (cond c (refused TooManyWrites) (record { reply = Done 1; writes = pair key value ∷ [] }))).writes)
+one_more key value write_set true c e f = nothing_more write_set f
+one_more key value write_set false true e f = nothing_more write_set f
+one_more key value write_set false false e f = record {
+  few = subst (λ (ps : List TableKey). different ps ≤ 4096) (sym (map-append table_key_of write_set (pair key value ∷ []))) (not_above most_writes _ e);
+  narrow = All-append IsNarrow write_set (pair key value ∷ []) f.narrow (All-cons IsNarrow (pair key value) [] (lit≤ tt) (All-nil IsNarrow));
 }
 
 not_built : (b : Bool) → (b && false) ≡ true → ⊥
 not_built true e = cc
 not_built false e = cc
 
-insert_more : (table : List ℕ) (tuples : List (List Value)) (s : State) (own : List Write) → IsTrue (is_built (Insert table tuples)) → AreStorable own
-    → AreStorable (own ++ (put_all s (places own) (map (put_of kv) tuples)).writes)
-insert_more table ((Int key ∷ Int value ∷ []) ∷ []) s own built f = one_more key value own (has_duplicate s (pair key value ∷ [])) _ refl f
-insert_more table tuples s own built f = absurd (not_built (is_named table (codes "KV")) built)
+insert_more : (table : List ℕ) (tuples : List (List Value)) (s : State) (write_set : List Write) → IsTrue (is_built (Insert table tuples)) → AreStorable write_set
+    → AreStorable (write_set ++ (put_all s (table_keys write_set) (map (put_of kv) tuples)).writes)
+insert_more table ((Int key ∷ Int value ∷ []) ∷ []) s write_set built f = one_more key value write_set (has_duplicate s (pair key value ∷ [])) _ refl f
+insert_more table tuples s write_set built f = absurd (not_built (is_named table (codes "KV")) built)
 
-pub more_stored : (st : Statement) (s : State) (own : List Write) → IsTrue (is_built st) → AreStorable own → AreStorable (own ++ (meaning st s (places own)).writes)
-more_stored Start s own built f = nothing_more own f
-more_stored Commit s own built f = nothing_more own f
-more_stored (Select what table filter) s own built f =
-    elim (is_named table (codes "KV")) as (λ b. AreStorable (own ++ (selected (cond b (Some kv) None) what filter s).writes)) [ true ↦ nothing_more own f | false ↦ nothing_more own f ]
-more_stored (Insert table tuples) s own built f =
-    elim (is_named table (codes "KV")) as (λ b. AreStorable (own ++ (inserted (cond b (Some kv) None) tuples s (places own)).writes)) [
-      | true ↦ insert_more table tuples s own built f
-      | false ↦ nothing_more own f
+pub more_stored : (st : Statement) (s : State) (write_set : List Write) → IsTrue (is_built st) → AreStorable write_set → AreStorable (write_set ++ (meaning st s (table_keys write_set)).writes)
+more_stored Start s write_set built f = nothing_more write_set f
+more_stored Commit s write_set built f = nothing_more write_set f
+more_stored (Select what table filter) s write_set built f =
+    elim (is_named table (codes "KV")) as (λ b. AreStorable (write_set ++ (selected (cond b (Some kv) None) what filter s).writes)) [ true ↦ nothing_more write_set f | false ↦ nothing_more write_set f ]
+more_stored (Insert table tuples) s write_set built f =
+    elim (is_named table (codes "KV")) as (λ b. AreStorable (write_set ++ (inserted (cond b (Some kv) None) tuples s (table_keys write_set)).writes)) [
+      | true ↦ insert_more table tuples s write_set built f
+      | false ↦ nothing_more write_set f
     ]
-more_stored Rollback s own built f = nothing_more own f
-more_stored (Update table sets w) s own built f = nothing_more own f
-more_stored (Delete table w) s own built f = nothing_more own f
-more_stored (CreateDatabank name) s own built f = nothing_more own f
-more_stored (CreateTable name columns key bank) s own built f = nothing_more own f
-more_stored (DropTable name) s own built f = nothing_more own f
-more_stored (CreateShadow name bank) s own built f = nothing_more own f
-more_stored (ShadowOnline name) s own built f = nothing_more own f
-more_stored (ShadowOffline name) s own built f = nothing_more own f
-more_stored (ShadowMaster name) s own built f = nothing_more own f
-more_stored (DropShadow name) s own built f = nothing_more own f
-more_stored (CreateBackup name bank) s own built f = nothing_more own f
-more_stored (BackupReady name) s own built f = nothing_more own f
-more_stored (DropBackup name) s own built f = nothing_more own f
-more_stored (Restore bank name) s own built f = nothing_more own f
+more_stored Rollback s write_set built f = nothing_more write_set f
+more_stored (Update table sets w) s write_set built f = nothing_more write_set f
+more_stored (Delete table w) s write_set built f = nothing_more write_set f
+more_stored (CreateDatabank name) s write_set built f = nothing_more write_set f
+more_stored (CreateTable name columns key bank) s write_set built f = nothing_more write_set f
+more_stored (DropTable name) s write_set built f = nothing_more write_set f
+more_stored (CreateShadow name bank) s write_set built f = nothing_more write_set f
+more_stored (ShadowOnline name) s write_set built f = nothing_more write_set f
+more_stored (ShadowOffline name) s write_set built f = nothing_more write_set f
+more_stored (ShadowMaster name) s write_set built f = nothing_more write_set f
+more_stored (DropShadow name) s write_set built f = nothing_more write_set f
+more_stored (CreateBackup name bank) s write_set built f = nothing_more write_set f
+more_stored (BackupReady name) s write_set built f = nothing_more write_set f
+more_stored (DropBackup name) s write_set built f = nothing_more write_set f
+more_stored (Restore bank name) s write_set built f = nothing_more write_set f
 
-pub net_stored : (s : State) (own : List Write) → AreStorable own → IsStorableList (net s own)
-net_stored s own f =
-    let es : List (Place × Write) = entries (retain_keys (last_writes own) (is_there s own)) in
-    let kept = entries-retain_keys (last_writes own) (is_there s own) in
-    let placed : All (IsPlaced IsNarrow) es = subst (All (IsPlaced IsNarrow)) (sym kept) (All-filter (λ e. is_there s own e.0) (IsPlaced IsNarrow) (entries (last_writes own)) (All-last_writes IsNarrow own f.narrow)) in
-    let fewer : length es ≤ length (entries (last_writes own)) =
-    subst (λ (xs : List (Place × Write)). length xs ≤ length (entries (last_writes own))) (sym kept) (length-filter-le (λ e. is_there s own e.0) (entries (last_writes own))) in
-    let few : different (places own) ≤ 4096 = f.few in
+pub net_stored : (s : State) (write_set : List Write) → AreStorable write_set → IsStorableList (net s write_set)
+net_stored s write_set f =
+    let es : List (TableKey × Write) = entries (retain_keys (last_writes write_set) (is_there s write_set)) in
+    let kept = entries-retain_keys (last_writes write_set) (is_there s write_set) in
+    let at_key : All (IsAtItsKey IsNarrow) es = subst (All (IsAtItsKey IsNarrow)) (sym kept) (All-filter (λ e. is_there s write_set e.0) (IsAtItsKey IsNarrow) (entries (last_writes write_set)) (All-last_writes IsNarrow write_set f.narrow)) in
+    let fewer : length es ≤ length (entries (last_writes write_set)) =
+    subst (λ (xs : List (TableKey × Write)). length xs ≤ length (entries (last_writes write_set))) (sym kept) (length-filter-le (λ e. is_there s write_set e.0) (entries (last_writes write_set))) in
+    let few : different (table_keys write_set) ≤ 4096 = f.few in
     record {
-      few = omega (arith, length-map es (λ e. e.1), length-last_writes own);
-      ascending = subst (IsStrictlySortedBy place_cmp) (sym (places_of_entries IsNarrow es placed)) (keys_ascend es (entries_sorted (retain_keys (last_writes own) (is_there s own))));
-      narrow = All-map IsNarrow (λ e. e.1) es (All-weaker (IsPlaced IsNarrow) (λ e. IsNarrow e.1) (λ e h. h.1) es placed);
+      few = omega (arith, length-map es (λ e. e.1), length-last_writes write_set);
+      ascending = subst (IsStrictlySortedBy table_key_cmp) (sym (table_keys_of_entries IsNarrow es at_key)) (keys_ascend es (entries_sorted (retain_keys (last_writes write_set) (is_there s write_set))));
+      narrow = All-map IsNarrow (λ e. e.1) es (All-weaker (IsAtItsKey IsNarrow) (λ e. IsNarrow e.1) (λ e h. h.1) es at_key);
     }

@@ -10,25 +10,25 @@ use Rattle.odb_model.specs.declared.reply.Reply.{Reply}
 use Rattle.odb_model.specs.declared.reply.Reply.TheVariants.{Okay, Rows, Done, Committed, Ended, InDoubt, Character, Text, Number, Syntax, End, Long, Line, NoSession, NotYet, NoTransaction, InTransaction, Duplicate, TooManyWrites, Halted, Conflict, Full, Fault, Memory}
 use Rattle.odb_model.specs.Print.{head_text, line_of, row_line, reply_text}
 use Rattle.odb_model.specs.Script.{open_line}
-use Rattle.odb_model.specs.Told.{Tells}
+use Rattle.odb_model.specs.Acknowledged.{Acknowledges}
 use Rattle.odb_model.specs.Play.{Answer, text_of_answer, said_by}
 use Rattle.odb_model.proofs.Replay.{or_false}
 use Rattle.odb_model.proofs.Cut.{HasNoLf, cut, ended-append, ended-front, ended-one, open_line-ended, open_line-append}
 use Rattle.odb_model.proofs.Decimal.{IsUnspaced, decimal-unspaced, unspaced-no_lf}
 
 -- what a front tells, all of the bytes tell
-pub Tells-front : (front rest : List ℕ) (k : ℕ) → Tells front k → Tells (front ++ rest) k
-Tells-front front rest k t =
+pub Acknowledges-front : (front rest : List ℕ) (k : ℕ) → Acknowledges front k → Acknowledges (front ++ rest) k
+Acknowledges-front front rest k t =
     let line = decimal t.session ++ codes " COMMITTED " ++ decimal k in
     let more = ended-front front rest in
     record { session = t.session; line = subst (λ (lines : List (List ℕ)). Contains lines line) (sym more.1) (Contains-append_left (cut front).0 more.0 line t.line) }
 
 -- where the first bytes end with a line, each of the two parts tells its own lines
-pub Tells-append : (front rest : List ℕ) (k : ℕ) → open_line front ≡ [] → Tells (front ++ rest) k → Tells front k ⊎ Tells rest k
-Tells-append front rest k ended t =
+pub Acknowledges-append : (front rest : List ℕ) (k : ℕ) → open_line front ≡ [] → Acknowledges (front ++ rest) k → Acknowledges front k ⊎ Acknowledges rest k
+Acknowledges-append front rest k ended t =
     let line = decimal t.session ++ codes " COMMITTED " ++ decimal k in
     let within : Contains ((cut front).0 ++ (cut rest).0) line = subst (λ (lines : List (List ℕ)). Contains lines line) (ended-append front rest ended) t.line in
-    elim (Contains-append_cases (cut front).0 (cut rest).0 line within) as (λ w. Tells front k ⊎ Tells rest k) [
+    elim (Contains-append_cases (cut front).0 (cut rest).0 line within) as (λ w. Acknowledges front k ⊎ Acknowledges rest k) [
       | inl here ↦ inl (record { session = t.session; line = here })
       | inr there ↦ inr (record { session = t.session; line = there })
     ]
@@ -37,8 +37,8 @@ nothing_there : (line : List ℕ) → Contains [] line → ⊥
 nothing_there line c = omega (arith, c.1)
 
 -- where nothing is said, nothing is told
-pub Tells-nothing : (k : ℕ) → Tells [] k → ⊥
-Tells-nothing k t = nothing_there _ t.line
+pub Acknowledges-nothing : (k : ℕ) → Acknowledges [] k → ⊥
+Acknowledges-nothing k t = nothing_there _ t.line
 
 one_there : (only line : List ℕ) → Contains (only ∷ []) line → only ≡ line
 one_there only line c = elim (Contains-push_cases [] only line c) as (λ w. only ≡ line) [ inl none ↦ absurd (nothing_there line none) | inr same ↦ same ]
@@ -62,7 +62,7 @@ after_space (x ∷ a) b [] d p q e = let same : x ≡ 32 = cc in absurd (omega (
 after_space (x ∷ a) b (y ∷ c) d p q e = let rest : a ++ 32 ∷ b ≡ c ++ 32 ∷ d = cc in after_space a b c d p.1 q.1 rest
 
 -- a line that tells of a commit has the words of one
-pub told_words : (head : Head) (words : List ℕ) (k : ℕ) → HasNoLf words → Tells (line_of head words) k → words ≡ codes "COMMITTED " ++ decimal k
+pub told_words : (head : Head) (words : List ℕ) (k : ℕ) → HasNoLf words → Acknowledges (line_of head words) k → words ≡ codes "COMMITTED " ++ decimal k
 told_words head words k none t =
     let line = head_text head ++ codes " " ++ words in
     let told = decimal t.session ++ codes " COMMITTED " ++ decimal k in

@@ -15,7 +15,8 @@ lexeme_in text token = lexeme_of token.kind (slice_range text token.from token.t
 abbrev pub HasLexemes : List ℕ → ℕ → List Lexeme → ℕ → Type 0
 HasLexemes text at [] to = at ≡ to
 HasLexemes text at (l ∷ ls) to =
-    (token : Token) × (next_in text at ≡ Ok (Some token)) × (lexeme_in text token ≡ l) × HasLexemes text token.to ls to
+    (token : Token) × (next_in text at ≡ Ok (Some token)) × (lexeme_in text token ≡ l)
+    × HasLexemes text token.to ls to
 
 -- some statement begins with these lexemes
 pub record Begins (front : List Lexeme) : Type 0 where
@@ -31,7 +32,8 @@ pub record IsStatementText (text : List ℕ) (statement : Statement) : Type 0 wh
   pub all : next_in text to ≡ Ok None
   pub spells : Spells lexemes statement
 
--- the token at `at` is the first that can't go on: some statement begins with those before it, and none with them and it
+-- the token at `at` is the first that can't go on: some statement begins with those before it, and
+-- none with them and it
 pub record IsUnexpected (text : List ℕ) (at : ℕ) : Type 0 where
   pub front : List Lexeme
   pub to : ℕ
@@ -64,8 +66,8 @@ pub data Refusal : Type 0 where
   Unexpected : ℕ → Refusal
   End : Refusal
 
--- The answer to a text, of which there is just one (`odb_parse::answers_once`). Of several refusals it is the one at the least place, since the tokens
--- before that place begin a statement.
+-- The answer to a text, of which there is just one (`odb_parse::answers_once`). Of several refusals
+-- it is the one at the least place, since the tokens before that place begin a statement.
 abbrev pub Answers : List ℕ → Result Statement Refusal → Type 0
 Answers text (Ok statement) = IsStatementText text statement
 Answers text (Err (NoToken wrong)) = IsNoToken text wrong

@@ -1,6 +1,6 @@
--- The one text that a statement is printed as: one space between two tokens, but none after `(`, before `)`, before `,`,
--- after the `-` of a literal, or between COUNT, SUM or VARCHAR and `(`. Names are in capitals, and no `;` ends it. The rules are this
--- project's own.
+-- The one text that a statement is printed as: one space between two tokens, but none after `(`,
+-- before `)`, before `,`, after the `-` of a literal, or between COUNT, SUM or VARCHAR and `(`.
+-- Names are in capitals, and no `;` ends it. The rules are this project's own.
 use Rattle.std.specs.Prelude.{ℕ, nat_lt, if◌then◌else◌, List, [], ◌∷◌, ◌++◌, codes, flat_map, Option, Some, None}
 use Rattle.std.specs.Fmt.{decimal, signed_decimal}
 use Rattle.odb_values.specs.declared.value.Value.{Value}
@@ -57,7 +57,8 @@ kind_text None = codes " INTEGER"
 kind_text (Some n) = codes " VARCHAR(" ++ decimal n ++ codes ")"
 
 abbrev pub column_text : ColumnText → List ℕ
-column_text column = column.name ++ kind_text column.length ++ (if column.not_null then codes " NOT NULL" else [])
+column_text column =
+    column.name ++ kind_text column.length ++ (if column.not_null then codes " NOT NULL" else [])
 
 abbrev pub what_text : What → List ℕ
 what_text w.All = codes "*"
@@ -83,12 +84,16 @@ shown binds text = record { binds = binds; text = text }
 
 -- a part that has to bind as tightly at least, with parentheses where it doesn't
 abbrev pub within : ℕ → Shown → List ℕ
-within least part = if nat_lt part.binds least then codes "(" ++ part.text ++ codes ")" else part.text
+within least part =
+    if nat_lt part.binds least then codes "(" ++ part.text ++ codes ")" else part.text
 
--- Parentheses stand round an OR under AND or NOT, round an AND under NOT, and round a right operand of the same kind.
+-- Parentheses stand round an OR under AND or NOT, round an AND under NOT, and round a right operand
+-- of the same kind.
 abbrev pub shown_step : Predicate-F Shown → Shown
-shown_step (Predicate-F.Test op left right) = shown 3 (operand_text left ++ compare_text op ++ operand_text right)
-shown_step (Predicate-F.Null column negated) = shown 3 (column ++ (if negated then codes " IS NOT NULL" else codes " IS NULL"))
+shown_step (Predicate-F.Test op left right) =
+    shown 3 (operand_text left ++ compare_text op ++ operand_text right)
+shown_step (Predicate-F.Null column negated) =
+    shown 3 (column ++ (if negated then codes " IS NOT NULL" else codes " IS NULL"))
 shown_step (Predicate-F.Not a) = shown 3 (codes "NOT " ++ within 3 a)
 shown_step (Predicate-F.And a b) = shown 2 (within 2 a ++ codes " AND " ++ within 3 b)
 shown_step (Predicate-F.Or a b) = shown 1 (within 1 a ++ codes " OR " ++ within 2 b)
@@ -104,13 +109,17 @@ abbrev pub statement_text : Statement → List ℕ
 statement_text st.Start = codes "START"
 statement_text st.Commit = codes "COMMIT"
 statement_text st.Rollback = codes "ROLLBACK"
-statement_text (st.Select what table filter) = codes "SELECT " ++ what_text what ++ codes " FROM " ++ table ++ filter_text filter
-statement_text (st.Insert table tuples) = codes "INSERT INTO " ++ table ++ codes " VALUES " ++ joined tuple_text tuples
-statement_text (st.Update table sets filter) = codes "UPDATE " ++ table ++ codes " SET " ++ joined assignment_text sets ++ filter_text filter
+statement_text (st.Select what table filter) =
+    codes "SELECT " ++ what_text what ++ codes " FROM " ++ table ++ filter_text filter
+statement_text (st.Insert table tuples) =
+    codes "INSERT INTO " ++ table ++ codes " VALUES " ++ joined tuple_text tuples
+statement_text (st.Update table sets filter) =
+    codes "UPDATE " ++ table ++ codes " SET " ++ joined assignment_text sets ++ filter_text filter
 statement_text (st.Delete table filter) = codes "DELETE FROM " ++ table ++ filter_text filter
 statement_text (st.CreateDatabank name) = codes "CREATE DATABANK " ++ name
 statement_text (st.CreateTable name columns key bank) =
-    codes "CREATE TABLE " ++ name ++ codes " (" ++ joined column_text columns ++ codes ", PRIMARY KEY (" ++ names_text key ++ codes ")) IN " ++ bank
+    codes "CREATE TABLE " ++ name ++ codes " (" ++ joined column_text columns
+    ++ codes ", PRIMARY KEY (" ++ names_text key ++ codes ")) IN " ++ bank
 statement_text (st.DropTable name) = codes "DROP TABLE " ++ name
 statement_text (st.CreateShadow name bank) = codes "CREATE SHADOW " ++ name ++ codes " FOR " ++ bank
 statement_text (st.ShadowOnline name) = codes "SET SHADOW " ++ name ++ codes " ONLINE"

@@ -1,5 +1,5 @@
--- The control lines, each of which asks for a step of upkeep, or for the state. Numbers stand as decimals without a leading zero. The
--- rules are this project's own.
+-- The control lines, each of which asks for a step of upkeep, or for the state. Numbers stand as
+-- decimals without a leading zero. The rules are this project's own.
 use Rattle.std.specs.Prelude.{◌≡◌, ℕ, ◌^◌, ◌<◌, List, ◌++◌, codes, ⊤}
 use Rattle.std.specs.Fmt.{decimal}
 use Rattle.odb_model.specs.declared.control.Control.{Control}

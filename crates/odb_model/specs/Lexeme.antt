@@ -1,4 +1,5 @@
--- What the tokens of a statement's text stand for, and which words are reserved. The rules are this project's own.
+-- What the tokens of a statement's text stand for, and which words are reserved. The rules are this
+-- project's own.
 use Rattle.std.specs.Prelude.{unwrap_or, ◌≡◌, ℕ, List, [], ◌∷◌, codes, find, Option, Some, None}
 use Rattle.std.specs.Str.{bytes_eq, str_eq_ignore_ascii_case}
 use Rattle.std.specs.Str.Parse.{digits_value}
@@ -62,9 +63,10 @@ word_text k.Is = codes "IS"
 -- all reserved words
 abbrev pub keywords : List Keyword
 keywords =
-    k.Start ∷ k.Commit ∷ k.Rollback ∷ k.Select ∷ k.From ∷ k.Where ∷ k.Insert ∷ k.Into ∷ k.Values ∷ k.Update ∷ k.Set ∷ k.Delete
-    ∷ k.Create ∷ k.Databank ∷ k.Table ∷ k.Primary ∷ k.Key ∷ k.In ∷ k.Drop ∷ k.Shadow ∷ k.For ∷ k.Online ∷ k.Offline ∷ k.Alter
-    ∷ k.To ∷ k.Master ∷ k.Backup ∷ k.Of ∷ k.Ready ∷ k.Restore ∷ k.Count ∷ k.Sum ∷ k.Null ∷ k.Integer ∷ k.Varchar ∷ k.Not ∷ k.Or
+    k.Start ∷ k.Commit ∷ k.Rollback ∷ k.Select ∷ k.From ∷ k.Where ∷ k.Insert ∷ k.Into ∷ k.Values
+    ∷ k.Update ∷ k.Set ∷ k.Delete ∷ k.Create ∷ k.Databank ∷ k.Table ∷ k.Primary ∷ k.Key ∷ k.In
+    ∷ k.Drop ∷ k.Shadow ∷ k.For ∷ k.Online ∷ k.Offline ∷ k.Alter ∷ k.To ∷ k.Master ∷ k.Backup ∷ k.Of
+    ∷ k.Ready ∷ k.Restore ∷ k.Count ∷ k.Sum ∷ k.Null ∷ k.Integer ∷ k.Varchar ∷ k.Not ∷ k.Or
     ∷ k.And ∷ k.Is ∷ []
 
 -- the reserved word that a word is, in large or small letters
@@ -89,7 +91,8 @@ sign_text s.Semicolon = codes ";"
 -- all signs but `;`
 abbrev pub signs : List Sign
 signs =
-    s.Open ∷ s.Close ∷ s.Comma ∷ s.Star ∷ s.Equal ∷ s.Unequal ∷ s.Less ∷ s.AtMost ∷ s.Greater ∷ s.AtLeast ∷ s.Plus ∷ s.Minus ∷ []
+    s.Open ∷ s.Close ∷ s.Comma ∷ s.Star ∷ s.Equal ∷ s.Unequal ∷ s.Less ∷ s.AtMost ∷ s.Greater
+    ∷ s.AtLeast ∷ s.Plus ∷ s.Minus ∷ []
 
 -- the sign of these bytes, which are those of one of the thirteen
 unfoldable pub sign_of : List ℕ → Sign

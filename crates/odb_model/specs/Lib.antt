@@ -21,6 +21,6 @@ pub mod Machine
 pub mod Serial
 pub mod Print
 pub mod Script
-pub mod Told
+pub mod Acknowledged
 pub mod Play
 pub mod Status

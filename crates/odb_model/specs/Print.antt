@@ -2,6 +2,7 @@
 use Rattle.std.specs.Prelude.{ℕ, List, [], ◌∷◌, ◌++◌, length, codes, flat_map}
 use Rattle.std.specs.Fmt.{decimal}
 use Rattle.odb_values.specs.declared.value.Value.{Value}
+use Rattle.odb_model.specs.declared.numbers.TheConstants.{LF}
 use Rattle.odb_model.specs.declared.reply.Head.{Head}
 use Rattle.odb_model.specs.declared.reply.Head.TheVariants.{Session, Control, Unknown}
 use Rattle.odb_model.specs.declared.reply.Reply.{Reply}
@@ -15,7 +16,7 @@ head_text Unknown = codes "?"
 
 -- a reply line: whom it names, a space, its words and LF
 abbrev pub line_of : Head → List ℕ → List ℕ
-line_of head words = head_text head ++ codes " " ++ words ++ 10 ∷ []
+line_of head words = head_text head ++ codes " " ++ words ++ LF ∷ []
 
 -- values with a comma between two
 abbrev pub values_text : List Value → List ℕ
@@ -32,7 +33,8 @@ refused_line head words = line_of head (codes "REFUSED " ++ words)
 -- the bytes that answer a line
 abbrev pub reply_text : Head → Reply → List ℕ
 reply_text head Okay = line_of head (codes "OK")
-reply_text head (Rows rows) = flat_map (row_line head) rows ++ line_of head (codes "ROWS " ++ decimal (length rows))
+reply_text head (Rows rows) =
+    flat_map (row_line head) rows ++ line_of head (codes "ROWS " ++ decimal (length rows))
 reply_text head (Done n) = line_of head (codes "DONE " ++ decimal n)
 reply_text head (Committed k) = line_of head (codes "COMMITTED " ++ decimal k)
 reply_text head (Ended p) = line_of head (codes "ENDED " ++ decimal p)
@@ -52,6 +54,7 @@ reply_text head Duplicate = refused_line head (codes "DUPLICATE")
 reply_text head TooManyWrites = refused_line head (codes "TOOMANYWRITES")
 reply_text head (Halted k) = refused_line head (codes "HALTED " ++ decimal k)
 reply_text head (Conflict j) = refused_line head (codes "CONFLICT " ++ decimal j)
-reply_text head (Full need room) = refused_line head (codes "FULL " ++ decimal need ++ codes " " ++ decimal room)
+reply_text head (Full need room) =
+    refused_line head (codes "FULL " ++ decimal need ++ codes " " ++ decimal room)
 reply_text head (Fault f) = refused_line head (codes "FAULT " ++ decimal f)
 reply_text head Memory = refused_line head (codes "MEMORY")

@@ -2,6 +2,7 @@
 use Rattle.std.specs.Prelude.{◌≡◌, ℕ, ◌^◌, ◌<◌, ◌≤◌, ◌==◌, List, [], ◌∷◌, ◌++◌, length, map, codes, Err, if◌then◌else◌}
 use Rattle.std.specs.Fmt.{decimal}
 use Rattle.odb_lex.specs.declared.error.LexError.TheVariants.{BadCharacter, OpenText, NumberTooWide}
+use Rattle.odb_model.specs.declared.numbers.TheConstants.{LF, SESSIONS}
 use Rattle.odb_model.specs.declared.control.Control.{Control as Step}
 use Rattle.odb_model.specs.declared.event.Event.{Event}
 use Rattle.odb_model.specs.declared.event.Event.TheVariants.{Session as OfSession, Control as Upkeep}
@@ -20,7 +21,7 @@ onto_first b (part ∷ parts) = (b ∷ part) ∷ parts
 -- the parts between the LFs, one more than there are LFs
 abbrev pub parts_of : List ℕ → List (List ℕ)
 parts_of [] = [] ∷ []
-parts_of (b ∷ bytes) = if b == 10 then [] ∷ parts_of bytes else onto_first b (parts_of bytes)
+parts_of (b ∷ bytes) = if b == LF then [] ∷ parts_of bytes else onto_first b (parts_of bytes)
 
 -- all but the last, and the last
 abbrev pub front_of : List (List ℕ) → List (List ℕ)
@@ -55,7 +56,8 @@ last_line (b ∷ bytes) = (b ∷ bytes) ∷ []
 abbrev pub all_lines : List ℕ → List (List ℕ)
 all_lines bytes = ended_lines bytes ++ last_line (open_line bytes)
 
--- a session line: a decimal of 1 to 9 digits without a leading zero, a space, and a statement's text
+-- a session line: a decimal of 1 to 9 digits without a leading zero, a space, and a statement's
+-- text
 pub record IsSessionLine (line : List ℕ) (session : ℕ) (text : List ℕ) : Type 0 where
   pub few : session < 10 ^ 9
   pub spelled : line ≡ decimal session ++ codes " " ++ text
@@ -66,7 +68,7 @@ BeginsAsControl line = (rest : List ℕ) × (line ≡ codes "! " ++ rest)
 
 -- the sessions are those from 1 to 64
 abbrev pub IsSession : ℕ → Type 0
-IsSession s = (1 ≤ s) × (s ≤ 64)
+IsSession s = (1 ≤ s) × (s ≤ SESSIONS)
 
 -- the most bytes that the text of a statement may have
 abbrev pub most_text : ℕ
@@ -78,7 +80,8 @@ pub record IsTextFor (line : List ℕ) (session : ℕ) (text : List ℕ) : Type 
   pub there : IsSession session
   pub short : length text ≤ most_text
 
--- the line asks for this step: of a session by the statement that its text spells, or of upkeep by its form
+-- the line asks for this step: of a session by the statement that its text spells, or of upkeep by
+-- its form
 abbrev pub IsRequest : List ℕ → Event → Type 0
 IsRequest line (OfSession s st) = (text : List ℕ) × IsTextFor line s text × IsStatementText text st
 IsRequest line (Upkeep control) = IsControl line control
@@ -92,13 +95,18 @@ head_of (Upkeep control) = Control
 abbrev pub IsTextRefused : List ℕ → ℕ → Refusal → Type 0
 IsTextRefused line s refusal = (text : List ℕ) × IsTextFor line s text × Answers text (Err refusal)
 
--- The line is refused before any step, with this head and this reply. First whether it is a line at all, then whether there is such a
--- session, then whether its text is short enough, then what the text spells. Memory may run out while a text is read
+-- The line is refused before any step, with this head and this reply. First whether it is a line at
+-- all, then whether there is such a session, then whether its text is short enough, then what the
+-- text spells. Memory may run out while a text is read
 abbrev pub IsRefused : List ℕ → Head → Reply → Type 0
-IsRefused line Unknown Line = ((s : ℕ) (text : List ℕ) → IsSessionLine line s text → ⊥) × (BeginsAsControl line → ⊥)
-IsRefused line Control Line = BeginsAsControl line × ((control : Step) → IsControl line control → ⊥)
-IsRefused line (Session s) NoSession = (text : List ℕ) × IsSessionLine line s text × (IsSession s → ⊥)
-IsRefused line (Session s) Long = (text : List ℕ) × IsSessionLine line s text × IsSession s × (most_text < length text)
+IsRefused line Unknown Line =
+    ((s : ℕ) (text : List ℕ) → IsSessionLine line s text → ⊥) × (BeginsAsControl line → ⊥)
+IsRefused line Control Line =
+    BeginsAsControl line × ((control : Step) → IsControl line control → ⊥)
+IsRefused line (Session s) NoSession =
+    (text : List ℕ) × IsSessionLine line s text × (IsSession s → ⊥)
+IsRefused line (Session s) Long =
+    (text : List ℕ) × IsSessionLine line s text × IsSession s × (most_text < length text)
 IsRefused line (Session s) (Character at) = IsTextRefused line s (NoToken (BadCharacter at))
 IsRefused line (Session s) (Text at) = IsTextRefused line s (NoToken (OpenText at))
 IsRefused line (Session s) (Number at) = IsTextRefused line s (NoToken (NumberTooWide at))

@@ -1,4 +1,5 @@
--- States and histories. A state maps keys of tables to rows; a history is the list of committed entries.
+-- States and histories. A state maps keys of tables to rows; a history is the list of committed
+-- entries.
 use Rattle.std.specs.Prelude.{◌≡◌, ℕ, ◌+◌, Bool, ◌==◌, List, [], ◌∷◌, IsTrue, Option, Some, None}
 use Rattle.std.specs.List.{list_any}
 use Rattle.std.specs.declared.cmp.Ordering.{Ordering}
@@ -8,33 +9,31 @@ use Rattle.odb_values.specs.declared.value.Value.{Value}
 use Rattle.odb_values.specs.declared.range.Range.{Range}
 use Rattle.odb_values.specs.Value.{values_cmp}
 use Rattle.odb_values.specs.Range.{in_range}
+use Rattle.odb_model.specs.declared.table_key.TableKey.{TableKey}
 use Rattle.odb_model.specs.declared.write.Write.{Write}
 use Rattle.odb_model.specs.declared.entry.Entry.{Entry}
 
--- a table's number and a key of it
-abbrev pub Place : Type 0
-Place = ℕ × List Value
-
 -- by table, then by key
-abbrev pub place_cmp : Place → Place → Ordering
-place_cmp a b = ordering_then (nat_cmp a.0 b.0) (values_cmp a.1 b.1)
+abbrev pub table_key_cmp : TableKey → TableKey → Ordering
+table_key_cmp a b = ordering_then (nat_cmp a.table b.table) (values_cmp a.key b.key)
 
--- a finite map from places to rows
+-- a finite map from table keys to rows
 abbrev pub State : Type 0
-State = FinMap place_cmp (List Value)
+State = FinMap table_key_cmp (List Value)
 
-abbrev pub place_of : Write → Place
-place_of w = (w.table, w.key)
+-- which row a write puts or deletes
+abbrev pub table_key_of : Write → TableKey
+table_key_of w = record { table = w.table; key = w.key }
 
--- the state with a row put at a place, or with the place emptied
-abbrev pub changed : State → Place → Option (List Value) → State
-changed s place None = remove s place
-changed s place (Some row) = insert s place row
+-- the state with a row put at a table key, or with the row there deleted
+abbrev pub changed : State → TableKey → Option (List Value) → State
+changed s at None = remove s at
+changed s at (Some row) = insert s at row
 
 -- the state after writes, the first of them first
 abbrev pub after_writes : State → List Write → State
 after_writes s [] = s
-after_writes s (w ∷ ws) = after_writes (changed s (place_of w) w.row) ws
+after_writes s (w ∷ ws) = after_writes (changed s (table_key_of w) w.row) ws
 
 abbrev pub replay_from : State → List Entry → State
 replay_from s [] = s
@@ -52,19 +51,19 @@ IsNumberedFrom n (e ∷ h) = (e.number ≡ n) × IsNumberedFrom (n + 1) h
 abbrev pub IsHistory : List Entry → Type 0
 IsHistory h = IsNumberedFrom 1 h
 
-abbrev pub is_in : Range → Place → Bool
-is_in range place = in_range range place.0 place.1
+abbrev pub is_in : Range → TableKey → Bool
+is_in range at = in_range range at.table at.key
 
-abbrev pub is_in_any : List Range → Place → Bool
-is_in_any ranges place = list_any (λ range. is_in range place) ranges
+abbrev pub is_in_any : List Range → TableKey → Bool
+is_in_any ranges at = list_any (λ range. is_in range at) ranges
 
--- both states have the same at every place of these ranges
+-- both states have the same at every table key of these ranges
 abbrev pub AgreeOn : List Range → State → State → Type 0
-AgreeOn ranges s t = (place : Place) → IsTrue (is_in_any ranges place) → get s place ≡ get t place
+AgreeOn ranges s t = (at : TableKey) → IsTrue (is_in_any ranges at) → get s at ≡ get t at
 
--- all rows of a table with their places, in key order
-abbrev pub rows_of : ℕ → State → List (Place × List Value)
-rows_of table s = entries (retain_keys s (λ place. table == place.0))
+-- all rows of a table with their table keys, in key order
+abbrev pub rows_of : ℕ → State → List (TableKey × List Value)
+rows_of table s = entries (retain_keys s (λ at. table == at.table))
 
 -- the part of a state inside a range
 abbrev pub part_in : Range → State → State
@@ -72,4 +71,4 @@ part_in range s = retain_keys s (is_in range)
 
 -- whether some write is to a key of the range
 abbrev pub writes_in : Range → List Write → Bool
-writes_in range writes = list_any (λ w. is_in range (place_of w)) writes
+writes_in range writes = list_any (λ w. is_in range (table_key_of w)) writes

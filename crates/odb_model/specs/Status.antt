@@ -24,8 +24,10 @@ text_of WriteFault = codes "optsql: write fault"
 text_of (FileFault file) = codes "optsql: fault: file " ++ decimal file
 text_of NoDatabase = codes "optsql: no database"
 text_of Exists = codes "optsql: database exists"
-text_of (Damaged file at) = codes "optsql: damaged: file " ++ decimal file ++ codes " at " ++ decimal at
+text_of (Damaged file at) =
+    codes "optsql: damaged: file " ++ decimal file ++ codes " at " ++ decimal at
 text_of (NotHeld bank mark first) =
-    codes "optsql: not held: bank " ++ decimal bank ++ codes " mark " ++ decimal mark ++ codes " first " ++ decimal first
+    codes "optsql: not held: bank " ++ decimal bank ++ codes " mark " ++ decimal mark
+    ++ codes " first " ++ decimal first
 text_of InputTooLong = codes "optsql: input too long"
 text_of NoMemory = codes "optsql: no memory"

@@ -20,7 +20,9 @@ abbrev pub kv : Table
 kv = record {
   number = 5;
   bank = 4;
-  columns = record { name = codes "K"; key_place = 1 } ∷ record { name = codes "V"; key_place = 0 } ∷ [];
+  columns =
+      record { name = codes "K"; key_place = 1 }
+      ∷ record { name = codes "V"; key_place = 0 } ∷ [];
 }
 
 abbrev pub is_named : List ℕ → List ℕ → Bool
@@ -38,22 +40,27 @@ in_columns (c ∷ columns) key row =
     then unwrap_or (slice_get row 0) Null ∷ in_columns columns key (drop 1 row)
     else unwrap_or (slice_get key (c.key_place - 1)) Null ∷ in_columns columns key row
 
--- the value of the column of this name, among the values in column order; Null where there is no such column
+-- the value of the column of this name, among the values in column order; Null where there is no
+-- such column
 abbrev pub column_value : List Column → List Value → List ℕ → Value
 column_value [] values name = Null
 column_value (c ∷ columns) [] name = Null
-column_value (c ∷ columns) (v ∷ values) name = if is_named name c.name then v else column_value columns values name
+column_value (c ∷ columns) (v ∷ values) name =
+    if is_named name c.name then v else column_value columns values name
 
 -- the values of the columns with this place in the key
 abbrev pub values_at : ℕ → List Column → List Value → List Value
 values_at place [] values = []
 values_at place (c ∷ columns) [] = []
-values_at place (c ∷ columns) (v ∷ values) = if c.key_place == place then v ∷ values_at place columns values else values_at place columns values
+values_at place (c ∷ columns) (v ∷ values) =
+    if c.key_place == place then v ∷ values_at place columns values
+    else values_at place columns values
 
 -- the key of a row that is given in column order: a key has at most 15 columns
 abbrev pub key_of : List Column → List Value → List Value
 key_of columns values =
-    flat_map (λ place. values_at place columns values) (1 ∷ 2 ∷ 3 ∷ 4 ∷ 5 ∷ 6 ∷ 7 ∷ 8 ∷ 9 ∷ 10 ∷ 11 ∷ 12 ∷ 13 ∷ 14 ∷ 15 ∷ [])
+    flat_map (λ place. values_at place columns values)
+    (1 ∷ 2 ∷ 3 ∷ 4 ∷ 5 ∷ 6 ∷ 7 ∷ 8 ∷ 9 ∷ 10 ∷ 11 ∷ 12 ∷ 13 ∷ 14 ∷ 15 ∷ [])
 
 -- the values outside the key
 abbrev pub row_of : List Column → List Value → List Value

@@ -29,7 +29,10 @@ holds Ge order = is_ge order
 
 -- a comparison with Null is Unknown
 abbrev pub compared : Compare → Value → Value → Truth
-compared op a b = if is_null a then Unknown else if is_null b then Unknown else truth_if (holds op (value_cmp a b))
+compared op a b =
+    if is_null a then Unknown
+    else if is_null b then Unknown
+    else truth_if (holds op (value_cmp a b))
 
 -- the value of an operand on a row, whose values are given in column order
 abbrev pub operand_value : List Column → List Value → Operand → Value
@@ -56,9 +59,11 @@ either_of Unknown True = True
 either_of Unknown b = Unknown
 
 abbrev pub truth_step : List Column → List Value → Predicate-F Truth → Truth
-truth_step columns values (Predicate-F.Test op left right) = compared op (operand_value columns values left) (operand_value columns values right)
+truth_step columns values (Predicate-F.Test op left right) =
+    compared op (operand_value columns values left) (operand_value columns values right)
 truth_step columns values (Predicate-F.Null name negated) =
-    if negated then not_of (truth_if (is_null (column_value columns values name))) else truth_if (is_null (column_value columns values name))
+    if negated then not_of (truth_if (is_null (column_value columns values name)))
+    else truth_if (is_null (column_value columns values name))
 truth_step columns values (Predicate-F.Not a) = not_of a
 truth_step columns values (Predicate-F.And a b) = both_of a b
 truth_step columns values (Predicate-F.Or a b) = either_of a b
@@ -72,7 +77,7 @@ is_true True = true
 is_true False = false
 is_true Unknown = false
 
--- WHERE keeps a row at True; without WHERE every row is kept
-abbrev pub keeps : List Column → Option Predicate → List Value → Bool
-keeps columns None values = true
-keeps columns (Some filter) values = is_true (truth_of columns values filter)
+-- WHERE has a row at True; without WHERE every row
+abbrev pub matches : List Column → Option Predicate → List Value → Bool
+matches columns None values = true
+matches columns (Some filter) values = is_true (truth_of columns values filter)

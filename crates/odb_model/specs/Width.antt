@@ -18,7 +18,8 @@ abbrev pub change_width : Option (List Value) → ℕ
 change_width None = 1
 change_width (Some row) = 3 + width_of_all row
 
--- the numbers of the databank and of the table in 4 bytes each, the key behind its length of 2, and the change
+-- the numbers of the databank and of the table in 4 bytes each, the key behind its length of 2, and
+-- the change
 abbrev pub write_width : Write → ℕ
 write_width w = 10 + width_of_all w.key + change_width w.row
 

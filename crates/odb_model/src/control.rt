@@ -1,3 +1,4 @@
+//! The steps of upkeep that a control line asks for.
 use odb_values::Duplicate;
 use std::alloc::{AllocError, Global};
 

@@ -1,3 +1,4 @@
+//! The entries of the history.
 use crate::Writes;
 use odb_values::{Duplicate, Frozen};
 use std::alloc::{AllocError, Global};

@@ -1,3 +1,4 @@
+//! What is asked of the machine.
 use crate::{Control, Statement};
 use odb_values::Duplicate;
 use std::alloc::{AllocError, Global};

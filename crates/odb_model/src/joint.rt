@@ -1,3 +1,5 @@
+//! What stands above the left part of a predicate: by it predicates are copied without a deep
+//! recursion.
 ghost use Rattle.std.specs.Prelude.{◌≡◌, IfOk, fold, reverse};
 ghost use Rattle.odb_model.specs.Joint.{under};
 
@@ -30,7 +32,8 @@ impl Joint {
     }
 }
 
-/// The predicate that has these joints, the topmost first, above this one. The error is want of memory.
+/// The predicate that has these joints, the topmost first, above this one. The error is want of
+/// memory.
 pub fn joined(
     alloc: Global,
     mut joints: Vec<Joint>,

@@ -1,3 +1,4 @@
+//! The reserved words.
 ghost use Rattle.std.specs.Prelude.{◌≡◌, find};
 ghost use Rattle.std.specs.Str.{str_eq_ignore_ascii_case};
 ghost use Rattle.odb_model.specs.Lexeme.{word_text, keyword_of};
@@ -145,7 +146,8 @@ impl Keyword {
         self.text().eq_ignore_ascii_case(word)
     }
 
-    /// The reserved word that a word is, in large or small letters. It takes no memory, and time in the word's bytes.
+    /// The reserved word that a word is, in large or small letters. It takes no memory, and time in
+    /// the word's bytes.
     pub fn of(word: &[u8]) -> Option<Keyword>
         ensures { result ≡ keyword_of word.now }
     {
@@ -155,7 +157,8 @@ impl Keyword {
 
 /// The first of some reserved words that the word is.
 fn found(keywords: &[Keyword], word: &[u8]) -> Option<Keyword>
-    ensures { result ≡ find (λ keyword. str_eq_ignore_ascii_case (word_text keyword) word.now) keywords.now }
+    ensures { result
+        ≡ find (λ keyword. str_eq_ignore_ascii_case (word_text keyword) word.now) keywords.now }
 {
     match keywords {
         [] => None,

@@ -1,7 +1,7 @@
 //! The definitions that the whole server is proved against, and the types that they speak of.
 //!
-//! The definitions stand in `specs/`: states and histories, what a statement means and which ranges it
-//! reads, the machine with its steps, the lines of a script and the texts of replies, and when a
+//! The definitions stand in `specs/`: states and histories, what a statement means and which ranges
+//! it reads, the machine with its steps, the lines of a script and the texts of replies, and when a
 //! transaction is serial. The laws about them are the contracts of the functions in `laws`.
 #![tactic(auto)]
 
@@ -11,6 +11,7 @@ mod event;
 mod joint;
 mod keyword;
 mod laws;
+mod numbers;
 mod outcome;
 mod predicate;
 mod reply;
@@ -18,6 +19,7 @@ mod side;
 mod sign;
 mod statement;
 mod status;
+mod table_key;
 mod truth;
 mod write;
 
@@ -26,6 +28,7 @@ pub use entry::{Entries, Entry};
 pub use event::Event;
 pub use keyword::Keyword;
 pub use laws::{agrees_on_reads, answers_alone, runs_serially, stays_storable};
+pub use numbers::{LF, SESSIONS};
 pub use outcome::{Outcome, Ranges, Read};
 pub use predicate::{Compare, Operand, Predicate};
 pub use reply::{Head, Reply};
@@ -36,5 +39,6 @@ pub use statement::{
     ValueRows, What,
 };
 pub use status::Status;
+pub use table_key::TableKey;
 pub use truth::Truth;
 pub use write::{Write, Writes};

@@ -1,3 +1,4 @@
+//! What a statement does, and what a transaction has read.
 use crate::{Reply, Writes};
 use odb_values::{Duplicate, Frozen, Range};
 use std::alloc::{AllocError, Global};

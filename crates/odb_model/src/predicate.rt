@@ -1,3 +1,4 @@
+//! Comparisons and what is made of them: what a WHERE asks of a row.
 use crate::joint::{Joint, joined};
 use odb_values::{Duplicate, Text, Value};
 use sqlite_items::Boxed;

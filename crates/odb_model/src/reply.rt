@@ -1,3 +1,4 @@
+//! The replies, and whom each names.
 use crate::ValueRows;
 use odb_values::Duplicate;
 use std::alloc::{AllocError, Global};
@@ -26,8 +27,8 @@ pub enum Reply {
     Committed(u64),
     /// COMMIT is done without a write, after this many entries.
     Ended(u64),
-    /// It isn't known whether COMMIT is done: the entry of this number may be there. The transaction is over, and until the
-    /// files are opened again every COMMIT is refused.
+    /// It isn't known whether COMMIT is done: the entry of this number may be there. The
+    /// transaction is over, and until the files are opened again every COMMIT is refused.
     InDoubt(u64),
     /// A byte of the statement's text, at this place from 0, can't stand there.
     Character(u64),
@@ -41,7 +42,8 @@ pub enum Reply {
     End,
     /// The statement's text has more than 65,536 bytes.
     Long,
-    /// The line is no line of a script: neither that of a session nor a control line of a known form.
+    /// The line is no line of a script: neither that of a session nor a control line of a known
+    /// form.
     Line,
     /// The session's number is 0 or above 64.
     NoSession,
@@ -53,16 +55,20 @@ pub enum Reply {
     InTransaction,
     /// A row with this key is there already. The statement changed nothing.
     Duplicate,
-    /// The transaction would have written more than 4,096 different keys. The statement changed nothing.
+    /// The transaction would have written more than 4,096 different keys. The statement changed
+    /// nothing.
     TooManyWrites,
-    /// The entry of this number is in doubt. The transaction stands, and can't be committed before the files are opened again.
+    /// The entry of this number is in doubt. The transaction stands, and can't be committed before
+    /// the files are opened again.
     Halted(u64),
-    /// The entry of this number wrote a range that the transaction had read before. The transaction is over.
+    /// The entry of this number wrote a range that the transaction had read before. The transaction
+    /// is over.
     Conflict(u64),
-    /// The record of the transaction needs so many bytes, and the active side of TRANSDB has so many left. The transaction
-    /// stands.
+    /// The record of the transaction needs so many bytes, and the active side of TRANSDB has so
+    /// many left. The transaction stands.
     Full { need: u64, room: u64 },
-    /// A call on the file of this number failed, and nothing was committed. The transaction stands and may be committed again.
+    /// A call on the file of this number failed, and nothing was committed. The transaction stands
+    /// and may be committed again.
     Fault(u32),
     /// Memory ran out. Nothing has changed.
     Memory,

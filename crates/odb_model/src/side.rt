@@ -1,3 +1,5 @@
+//! The state of the side of TRANSDB that takes no new records.
+
 /// The state of the side of TRANSDB that takes no new records.
 #[derive(Clone, Copy, Debug, PartialEq, Eq)]
 pub enum OtherSide {

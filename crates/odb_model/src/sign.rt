@@ -1,3 +1,4 @@
+//! The signs of the statement language.
 ghost use Rattle.std.specs.Prelude.{◌≡◌, find};
 ghost use Rattle.std.specs.Str.{bytes_eq};
 ghost use Rattle.odb_model.specs.Lexeme.{sign_text, sign_of};

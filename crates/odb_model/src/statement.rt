@@ -1,3 +1,4 @@
+//! Statements and their parts.
 use crate::{Operand, Predicate};
 use odb_values::{Duplicate, Frozen, Text, Values};
 use std::alloc::{AllocError, Global};
@@ -66,7 +67,8 @@ pub struct ColumnText {
 pub enum Statement {
     /// Begins a transaction.
     Start,
-    /// Validates the reads of the transaction and puts its writes into the history as one entry, or refuses it.
+    /// Validates the reads of the transaction and puts its writes into the history as one entry, or
+    /// refuses it.
     Commit,
     /// Ends the transaction without a trace.
     Rollback,

@@ -1,3 +1,4 @@
+//! How the program ends: the number and the text of each status.
 ghost use Rattle.std.specs.Prelude.{◌≡◌, string_bytes, IfOk};
 ghost use Rattle.odb_model.specs.Status.{number_of, text_of};
 
@@ -22,7 +23,8 @@ pub enum Status {
     Exists,
     /// A file isn't in order; `at` is the byte at which that shows.
     Damaged { file: u32, at: u64 },
-    /// The entries of the history that a databank lacks, those above its mark, are held from a later number on.
+    /// The entries of the history that a databank lacks, those above its mark, are held from a
+    /// later number on.
     NotHeld { bank: u32, mark: u64, first: u64 },
     /// The input has more than 2^32 bytes.
     InputTooLong,
@@ -50,7 +52,8 @@ impl Status {
         }
     }
 
-    /// The text for standard error, without an end of line; empty for `Done`. The error is want of memory.
+    /// The text for standard error, without an end of line; empty for `Done`. The error is want of
+    /// memory.
     pub fn text(self, alloc: Global) -> Result<String, AllocError>
         ensures { IfOk result (λ text. string_bytes text ≡ text_of self) }
     {

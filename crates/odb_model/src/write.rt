@@ -1,3 +1,4 @@
+//! One change of a transaction.
 use odb_values::{Duplicate, Frozen, Key, Row};
 use std::alloc::{AllocError, Global};
 

@@ -10,7 +10,7 @@ use Rattle.odb_device.specs.Images.{part, kept, EachImage}
 use Rattle.odb_device.specs.Calls.{HasRead}
 use Rattle.odb_device.proofs.Bytes.{image_kept}
 use Rattle.odb_pair.specs.Places.{gate, sequence, payload, opened}
-use Rattle.odb_pair.specs.Standing.{Kept, StandsFor}
+use Rattle.odb_pair.specs.Standing.{PairState, StandsFor}
 use Rattle.odb_pair.specs.Answers.{IsAnswer}
 use Rattle.odb_pair.specs.declared.error.PairError.{PairError}
 use Rattle.odb_pair.specs.Same.{SamePlace, stands_same, opened_same}
@@ -35,7 +35,7 @@ long_front b = let long = length-take 1024 b in elim (cases_lt (length b) 1024) 
 opened_front : (b : List ℕ) → opened b ≡ opened (take 1024 b)
 opened_front b = opened_same (take 1024 b) b (long_front b) (same_front 0 b (omega arith)) (same_front 1 b (omega arith))
 
-stands_front : (pair : Kept) (b : List ℕ) → StandsFor pair (take 1024 b) → StandsFor pair b
+stands_front : (pair : PairState) (b : List ℕ) → StandsFor pair (take 1024 b) → StandsFor pair b
 stands_front pair b h = stands_same pair (take 1024 b) b h (omega (arith, h.long, length-take 1024 b)) (same_front pair.place b h.place) (same_front (1 - pair.place) b (omega arith))
 
 -- what a read of a synced file gives is the front of its bytes
@@ -56,6 +56,6 @@ pub answer_front : (r : Result (List ℕ) PairError) (n : ℕ) (out : List ℕ) 
 answer_front r n out None front answer = tt
 answer_front r n out (Some f) front answer = subst (IsAnswer r) (ap opened front ∙ sym (opened_front f.bytes)) answer
 
-pub stands_read : (pair : Kept) (n : ℕ) (out : List ℕ) (o : Option File) → IfSome o (λ f. take n out ≡ take 1024 f.bytes) → StandsFor pair (take n out) → IfSome o (λ f. StandsFor pair f.bytes)
+pub stands_read : (pair : PairState) (n : ℕ) (out : List ℕ) (o : Option File) → IfSome o (λ f. take n out ≡ take 1024 f.bytes) → StandsFor pair (take n out) → IfSome o (λ f. StandsFor pair f.bytes)
 stands_read pair n out None front h = tt
 stands_read pair n out (Some f) front h = stands_front pair f.bytes (subst (StandsFor pair) front h)

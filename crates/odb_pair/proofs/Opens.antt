@@ -3,7 +3,7 @@ use Rattle.std.proofs.Common.{◌≡◌, ◌≢◌, inl, inr, ℕ, ◌-◌, ◌�
 use Rattle.std.proofs.lemmas.Bool.{cases_eq, cases_Bool}
 use Rattle.std.proofs.lemmas.Bool.Decides.{nat_tests}
 use Rattle.odb_pair.specs.Places.{OPEN, gate, sequence, payload, next, holding, Holds}
-use Rattle.odb_pair.specs.Standing.{Kept, StandsFor, HoldsKept}
+use Rattle.odb_pair.specs.Standing.{PairState, StandsFor, HoldsKept}
 
 next_twice : (n : ℕ) → next (next n) ≡ n → ⊥
 unfolding next
@@ -49,7 +49,7 @@ module _ (c : List ℕ) (long : 1024 ≤ length c) where
         (second_later (ap (λ (k : ℕ). gate k c) (sym first) ∙ also_open) (ap (λ (k : ℕ). gate k c) (sym second) ∙ is_open) (ap (λ (k : ℕ). sequence k c) (sym second) ∙ follows ∙ ap (λ (k : ℕ). next (sequence k c)) first))
   ]
 
-pub opens : (pair : Kept) (c : List ℕ) → StandsFor pair c → HoldsKept pair c
+pub opens : (pair : PairState) (c : List ℕ) → StandsFor pair c → HoldsKept pair c
 opens pair c h =
     let p = pair.place in
     let o = 1 - pair.place in
@@ -70,12 +70,12 @@ opens pair c h =
     ]
 
 -- where the value kept is all that was tried
-pub opens_settled : (pair : Kept) (c : List ℕ) → pair.tried ≡ pair.value → StandsFor pair c → Holds pair.value c
+pub opens_settled : (pair : PairState) (c : List ℕ) → pair.tried ≡ pair.value → StandsFor pair c → Holds pair.value c
 opens_settled pair c same h = elim (opens pair c h) [
   | inl kept ↦ kept
   | inr tried ↦ tried ∙ ap holding same
 ]
 
 -- settled or not, the bytes are the pair's
-pub stands_marked : (pair : Kept) (settled : Bool) (c : List ℕ) → StandsFor pair c → StandsFor (record pair { settled = settled }) c
+pub stands_marked : (pair : PairState) (settled : Bool) (c : List ℕ) → StandsFor pair c → StandsFor (record pair { settled = settled }) c
 stands_marked pair settled c h = record { place = h.place; long = h.long; is_open = h.is_open; number = h.number; value = h.value; closed = h.closed; other = h.other }

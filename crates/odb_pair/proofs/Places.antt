@@ -8,7 +8,7 @@ use Rattle.odb_device.specs.Images.{Torn, part, overwritten}
 use Rattle.odb_device.proofs.Bytes.{overwritten-inside, part_inside}
 use Rattle.odb_device.proofs.Torn.{torn_overwritten}
 use Rattle.odb_pair.specs.Places.{OPEN, gate, sequence, payload, next}
-use Rattle.odb_pair.specs.Standing.{Kept, StandsFor, IsFilled}
+use Rattle.odb_pair.specs.Standing.{PairState, StandsFor, IsFilled}
 use Rattle.odb_pair.specs.Same.{SamePlace, gate_stays, sequence_stays, payload_stays, place_stays}
 
 next_small : (n : ℕ) → next n < 2 ^ 64
@@ -51,7 +51,7 @@ value_put p value body d size is =
     ap (λ (k : ℕ). part k 40 (overwritten (512 * p + 1) body d)) there ∙ part_inside (512 * p + 1) 8 40 body d (omega arith) ∙ is
 
 -- the other place's gate, while its number and value stand
-module _ (pair : Kept) (d c : List ℕ) (long : 1024 ≤ length d) (place : pair.place ≤ 1) (t : Torn (512 * (1 - pair.place)) 1 d c) where
+module _ (pair : PairState) (d c : List ℕ) (long : 1024 ≤ length d) (place : pair.place ≤ 1) (t : Torn (512 * (1 - pair.place)) 1 d c) where
   this_place : SamePlace pair.place d c
   this_place = other_place pair.place 0 1 d c place long (omega arith) (subst (λ k. Torn k 1 d c) (omega arith) t)
 
@@ -59,13 +59,13 @@ module _ (pair : Kept) (d c : List ℕ) (long : 1024 ≤ length d) (place : pair
   that_body = same_body (1 - pair.place) d c (omega arith) long t
 
 -- a write of the other place's number and value
-filled_place : (pair : Kept) (d c : List ℕ) → 1024 ≤ length d → pair.place ≤ 1 → Torn (512 * (1 - pair.place) + 1) 63 d c → SamePlace pair.place d c
+filled_place : (pair : PairState) (d c : List ℕ) → 1024 ≤ length d → pair.place ≤ 1 → Torn (512 * (1 - pair.place) + 1) 63 d c → SamePlace pair.place d c
 filled_place pair d c long place t = other_place pair.place 1 63 d c place long (omega arith) t
 
 pub zero_is_closed : (◌≡◌ {A = ℕ} 0 OPEN) → ⊥
 zero_is_closed e = cc
 
-module _ (pair : Kept) (d : List ℕ) (h : StandsFor pair d) where
+module _ (pair : PairState) (d : List ℕ) (h : StandsFor pair d) where
   pub close_torn : (c : List ℕ) → pair.closed ≡ false → Torn (512 * (1 - pair.place)) 1 d c → StandsFor pair c
   close_torn c not_closed t =
       let here = this_place pair d c h.long h.place t in
@@ -121,7 +121,7 @@ module _ (pair : Kept) (d : List ℕ) (h : StandsFor pair d) where
         body = value_put (1 - pair.place) value body d size value_is;
       }
 
-module _ (pair : Kept) (value d : List ℕ) (h : IsFilled pair value d) where
+module _ (pair : PairState) (value d : List ℕ) (h : IsFilled pair value d) where
   pub open_torn : (c : List ℕ) → Torn (512 * (1 - pair.place)) 1 d c → StandsFor (record pair { tried = value; closed = false }) c
   open_torn c t =
       let here = this_place pair d c h.stands.long h.stands.place t in
@@ -136,7 +136,7 @@ module _ (pair : Kept) (value d : List ℕ) (h : IsFilled pair value d) where
         other = λ e. inl (there.number ∙ h.number, there.value ∙ h.body);
       }
 
-  pub open_done : (new : Kept) → new.place ≡ 1 - pair.place → new.sequence ≡ next pair.sequence → new.value ≡ value → new.closed ≡ false → StandsFor new (overwritten (512 * (1 - pair.place)) (OPEN ∷ []) d)
+  pub open_done : (new : PairState) → new.place ≡ 1 - pair.place → new.sequence ≡ next pair.sequence → new.value ≡ value → new.closed ≡ false → StandsFor new (overwritten (512 * (1 - pair.place)) (OPEN ∷ []) d)
   open_done new place_is number_is value_is open_is =
       let c = overwritten (512 * (1 - pair.place)) (OPEN ∷ []) d in
       let t = torn_overwritten (512 * (1 - pair.place)) (OPEN ∷ []) d in

@@ -1,5 +1,6 @@
--- A value of forty bytes at two places of a file: what bytes stand for.
--- Each place has 64 bytes: a gate, a number of eight bytes, the value, and fifteen bytes that are not looked at. They stand at bytes 0 and 512.
+-- A value of forty bytes at two places of a file: what bytes stand for. Each place has 64 bytes: a
+-- gate, a number of eight bytes, the value, and fifteen bytes that are not looked at. They stand at
+-- bytes 0 and 512.
 use Rattle.std.specs.Prelude.{◌≡◌, ℕ, ◌+◌, ◌*◌, ◌%◌, ◌^◌, Bool, not, ◌&&◌, ◌==◌, nat_lt, if◌then◌else◌, List, length, slice_index}
 use Rattle.std.specs.Int.{w64, from_be_bytes}
 use Rattle.odb_device.specs.Images.{part}

@@ -1,13 +1,13 @@
-// A value of forty bytes at two places of a file.
+//! A value of forty bytes at two places of a file.
 ghost use Rattle.std.specs.Prelude.{◌≡◌, ◌≢◌, ◌-◌, ◌*◌, ◌≤◌, ℕ, List, Ok, Err, true, false, IsTrue, length, IfOk, IfErr, OnOk, OnErr, IfSome};
 ghost use Rattle.std.specs.Int.{w64, to_be_bytes};
 ghost use Rattle.odb_device.specs.World.{file_of};
-ghost use Rattle.odb_device.specs.Images.{EachImage, TornFrom, part};
+ghost use Rattle.odb_device.specs.Images.{EachImage, part};
 ghost use Rattle.odb_device.specs.Calls.{HasCause, Keeps, FileCountRose};
-ghost use Rattle.odb_device.specs.Moments.{Runs};
-ghost use Rattle.odb_pair.specs.Places.{opened, Holds};
-ghost use Rattle.odb_pair.specs.Standing.{StandsFor, IsFilled, HoldsKept, HoldsKeptOr, LeavesUnsettled, formatted, after_put};
-ghost use Rattle.odb_pair.specs.Answers.{IsAnswer, result_map};
+ghost use Rattle.odb_device.specs.Moments.{WritesWithin};
+ghost use Rattle.odb_pair.specs.Places.{Holds};
+ghost use Rattle.odb_pair.specs.Standing.{StandsFor, Stands, IsFilled, HoldsKept, HoldsKeptOr, RunsPair, LeavesUnsettled, Settles, formatted, after_put, with_closed, with_tried, unsettled};
+ghost use Rattle.odb_pair.specs.Answers.{IsOpened};
 
 use crate::PairError;
 use crate::reading::{OPEN_GATE, read_places};
@@ -17,18 +17,22 @@ use std::marker::Model;
 /// The byte that closes a gate. Any but [`OPEN_GATE`] would do.
 const CLOSED_GATE: u8 = 0;
 
-/// A value of forty bytes that survives a crash, kept at two places of a file: bytes 0 to 63 and bytes 512 to 575.
+/// A value of forty bytes that survives a crash, kept at two places of a file: bytes 0 to 63 and
+/// bytes 512 to 575.
 ///
-/// A place is a gate of one byte, which is open where it is 0xA5, a number of eight bytes, big-endian, the value, and
-/// 15 bytes that are written as zeros and not looked at. The open place counts, and of two the one whose number comes
-/// after the other's, modulo 2^64. A value is put at the place that doesn't count, behind its closed gate, so a crash
-/// at any moment leaves the value kept or the new one, or, after a put that broke off, the one that it tried.
+/// A place is a gate of one byte, which is open where it is 0xA5, a number of eight bytes,
+/// big-endian, the value, and 15 bytes that are written as zeros and not looked at. The open place
+/// counts, and of two the one whose number comes after the other's, modulo 2^64. A value is put at
+/// the place that doesn't count, behind its closed gate, so a crash at any moment leaves the value
+/// kept or the new one, or, after a put that broke off, the one that it tried.
 ///
-/// A pair reads and writes the file's first 1,024 bytes alone, and takes no memory but arrays on the stack. Contracts
-/// see it as a `Kept`, and say by `StandsFor` which bytes are those of a pair.
+/// A pair reads and writes the file's first 1,024 bytes alone, and takes no memory but arrays on
+/// the stack. Contracts see it as a `PairState`, and say by `StandsFor` which bytes are those of a
+/// pair.
 ///
-/// After a fault in `put` or `settle` the pair is unsettled: a crash may leave the value kept, or that of the last
-/// broken put that came as far as its gate. A later put with Ok, of whatever value, settles it.
+/// After a fault in `put` or `settle` the pair is unsettled: a crash may leave the value kept, or
+/// that of the last broken put that came as far as its gate. A later put with Ok, of whatever
+/// value, settles it.
 #[derive(Debug, Drop)]
 pub struct Pair {
     file: u32,
@@ -46,9 +50,9 @@ pub struct Pair {
 }
 
 impl Model for Pair {
-    ghost use Rattle.odb_pair.specs.Standing.{Kept, IsKept};
+    ghost use Rattle.odb_pair.specs.Standing.{PairState, IsSound};
 
-    ghost Value = { Kept };
+    ghost Value = { PairState };
 
     ghost view = { λ p. record {
       file = p.file;
@@ -60,22 +64,23 @@ impl Model for Pair {
       settled = p.settled;
     } };
 
-    ghost invariant = { λ p. IsKept (view p) };
+    ghost invariant = { λ p. IsSound (view p) };
 }
 
 impl Pair {
-    /// Makes a pair of the file's first 1,024 bytes, with this value at place 0 under the number 1. A file that is
-    /// shorter grows to them.
+    /// Makes a pair of the file's first 1,024 bytes, with this value at place 0 under the number 1.
+    /// A file that is shorter grows to them.
     ///
-    /// It writes 1,024 zeros, then the number and the value, then the gate, with a sync after each: three writes and
-    /// three syncs, and 1,024 bytes of the stack. A crash before it ends, and `Fault`, the only refusal, may leave any
-    /// bytes there.
+    /// It writes 1,024 zeros, then the number and the value, then the gate, with a sync after each:
+    /// three writes and three syncs, and 1,024 bytes of the stack. A crash before it ends, and
+    /// `Fault`, the only refusal, may leave any bytes there.
     pub fn format<S: Store>(store: &mut S, file: u32, value: &[u8; 40]) -> Result<Pair, PairError>
-        ensures run { Runs file (TornFrom 0 1024 (file_of file (S.world store.old)))
-            (S.world store.old) (S.world store.new) }
-        ensures stands { IfOk result (λ pair. EachImage (StandsFor pair) (file_of file (S.world store.new))) }
-        ensures holds { OnOk result (EachImage (Holds value.now) (file_of file (S.world store.new))) }
-        ensures pair { IfOk result (λ pair. (pair.file ≡ file) × (pair.value ≡ value.now) × (pair.settled ≡ true)) }
+        ensures run { WritesWithin file 0 1024 (S.world store.old) (S.world store.new) }
+        ensures stands { IfOk result (λ pair. Stands pair (file_of file (S.world store.new))) }
+        ensures holds { OnOk result
+            (EachImage (Holds value.now) (file_of file (S.world store.new))) }
+        ensures pair { IfOk result
+            (λ pair. (pair.file ≡ file) × (pair.value ≡ value.now) × (pair.settled ≡ true)) }
         ensures fresh { IfOk result (λ pair. pair ≡ formatted file value.now) }
         ensures refusal { IfErr result (λ e. e ≡ PairError.Fault) }
         ensures cause { HasCause file (S.world store.old) (S.world store.new) result }
@@ -94,23 +99,25 @@ impl Pair {
         })
     }
 
-    /// The pair that the file's bytes are, once they are on the disk: one sync and one read of 1,024 bytes, onto the stack.
+    /// The pair that the file's bytes are, once they are on the disk: one sync and one read of
+    /// 1,024 bytes, onto the stack.
     ///
-    /// It refuses `NoOpenPlace` and `Malformed` exactly by the two gates, the numbers and the file's length, as `opened`
-    /// says, and `Fault` where the sync or the read failed. It writes nothing. The sync comes first, so what is read is
-    /// all that a crash leaves, and the pair is settled; after `Fault` a crash may still leave what it might have left
-    /// before.
+    /// It refuses `NoOpenPlace` and `Malformed` exactly by the two gates, the numbers and the
+    /// file's length, as `opened` says, and `Fault` where the sync or the read failed. It writes
+    /// nothing. The sync comes first, so what is read is all that a crash leaves, and the pair is
+    /// settled; after `Fault` a crash may still leave what it might have left before.
     pub fn open<S: Store>(store: &mut S, file: u32) -> Result<Pair, PairError>
-        ensures run { Runs file (TornFrom 0 0 (file_of file (S.world store.old)))
-            (S.world store.old) (S.world store.new) }
-        ensures kept { result ≢ Err PairError.Fault → Keeps file (S.world store.old) (S.world store.new) }
-        ensures answer { IfSome (file_of file (S.world store.old))
-            (λ f. IsAnswer (result_map (λ pair. pair.value) result) (opened f.bytes)) }
-        ensures stands { IfOk result (λ pair. EachImage (StandsFor pair) (file_of file (S.world store.new))) }
-        ensures holds { IfOk result (λ pair. EachImage (Holds pair.value) (file_of file (S.world store.new))) }
+        ensures run { WritesWithin file 0 0 (S.world store.old) (S.world store.new) }
+        ensures kept { result ≢ Err PairError.Fault
+            → Keeps file (S.world store.old) (S.world store.new) }
+        ensures answer { IfSome (file_of file (S.world store.old)) (λ f. IsOpened result f.bytes) }
+        ensures stands { IfOk result (λ pair. Stands pair (file_of file (S.world store.new))) }
+        ensures holds { IfOk result
+            (λ pair. EachImage (Holds pair.value) (file_of file (S.world store.new))) }
         ensures pair { IfOk result (λ pair. (pair.file ≡ file) × (pair.settled ≡ true)) }
         ensures tried { IfOk result (λ pair. pair.tried ≡ pair.value) }
-        ensures fault { result ≡ Err PairError.Fault → FileCountRose file (S.world store.old) (S.world store.new) }
+        ensures fault { result ≡ Err PairError.Fault
+            → FileCountRose file (S.world store.old) (S.world store.new) }
     {
         store.sync(file)?;
         let mut bytes = [0; 1024];
@@ -128,25 +135,24 @@ impl Pair {
         })
     }
 
-    /// Puts a value at the place that doesn't count, which counts from then on, under the next number modulo 2^64.
+    /// Puts a value at the place that doesn't count, which counts from then on, under the next
+    /// number modulo 2^64.
     ///
-    /// It closes that place's gate, writes the number and the value, and opens the gate, with a sync after each: at most
-    /// three writes and three syncs, and two of each where the gate is closed on the disk already.
+    /// It closes that place's gate, writes the number and the value, and opens the gate, with a
+    /// sync after each: at most three writes and three syncs, and two of each where the gate is
+    /// closed on the disk already.
     ///
-    /// At each moment of it a crash leaves the value kept, this one, or that of the last broken put that came as far as
-    /// its gate; after Ok this one alone.
-    /// After `Fault`, the only refusal, the pair is unsettled: the place, the number and the value kept are as before,
-    /// and a crash may leave besides the value kept this one, or the one tried before it.
+    /// At each moment of it a crash leaves the value kept, this one, or that of the last broken put
+    /// that came as far as its gate; after Ok this one alone. After `Fault`, the only refusal, the
+    /// pair is unsettled: the place, the number and the value kept are as before, and a crash may
+    /// leave besides the value kept this one, or the one tried before it.
     pub fn put<S: Store>(&mut self, store: &mut S, value: &[u8; 40]) -> Result<(), PairError>
-        requires { EachImage (StandsFor self.old) (file_of self.old.file (S.world store.old)) }
-        ensures run { Runs self.old.file (EachImage (HoldsKeptOr self.old value.now))
+        requires { Stands self.old (file_of self.old.file (S.world store.old)) }
+        ensures run { RunsPair self.old (HoldsKeptOr self.old value.now)
             (S.world store.old) (S.world store.new) }
-        ensures beside { Runs self.old.file (TornFrom 0 1024 (file_of self.old.file (S.world store.old)))
-            (S.world store.old) (S.world store.new) }
-        ensures stands { EachImage (StandsFor self.new) (file_of self.old.file (S.world store.new)) }
-        ensures holds { OnOk result (EachImage (Holds value.now) (file_of self.old.file (S.world store.new))) }
-        ensures ok { OnOk result ((self.new.value ≡ value.now) × (self.new.settled ≡ true)) }
-        ensures err { OnErr result ((self.new.value ≡ self.old.value) × (self.new.settled ≡ false)) }
+        ensures stands { Stands self.new (file_of self.old.file (S.world store.new)) }
+        ensures holds { OnOk result
+            (EachImage (Holds value.now) (file_of self.old.file (S.world store.new))) }
         ensures counts { OnOk result (self.new ≡ after_put self.old value.now) }
         ensures unsettled { OnErr result (LeavesUnsettled value.now self.old self.new) }
         ensures same { self.new.file ≡ self.old.file }
@@ -161,22 +167,22 @@ impl Pair {
         Ok(())
     }
 
-    /// Puts the value kept once more where the pair is unsettled, as `put` does; else it makes no call of the store.
+    /// Puts the value kept once more where the pair is unsettled, as `put` does; else it makes no
+    /// call of the store.
     ///
-    /// After Ok a crash leaves the value kept alone. After `Fault`, the only refusal, the pair is as after a `put` that
-    /// failed.
+    /// After Ok a crash leaves the value kept alone. After `Fault`, the only refusal, the pair is
+    /// as after a `put` that failed.
     pub fn settle<S: Store>(&mut self, store: &mut S) -> Result<(), PairError>
-        requires { EachImage (StandsFor self.old) (file_of self.old.file (S.world store.old)) }
-        ensures run { Runs self.old.file (EachImage (HoldsKept self.old)) (S.world store.old) (S.world store.new) }
-        ensures beside { Runs self.old.file (TornFrom 0 1024 (file_of self.old.file (S.world store.old)))
+        requires { Stands self.old (file_of self.old.file (S.world store.old)) }
+        ensures run { RunsPair self.old (HoldsKept self.old)
             (S.world store.old) (S.world store.new) }
-        ensures stands { EachImage (StandsFor self.new) (file_of self.old.file (S.world store.new)) }
-        ensures holds { OnOk result (EachImage (Holds self.old.value) (file_of self.old.file (S.world store.new))) }
-        ensures ok { OnOk result (self.new.settled ≡ true) }
-        ensures counts { OnOk result (self.old.settled ≡ false → self.new ≡ after_put self.old self.old.value) }
-        ensures tried { OnOk result (self.new.tried ≡ self.old.value) }
+        ensures stands { Stands self.new (file_of self.old.file (S.world store.new)) }
+        ensures holds { OnOk result
+            (EachImage (Holds self.old.value) (file_of self.old.file (S.world store.new))) }
+        ensures ok { OnOk result (Settles self.old self.new) }
         ensures unsettled { OnErr result (LeavesUnsettled self.old.value self.old self.new) }
-        ensures quiet { self.old.settled ≡ true → (result ≡ Ok tt) × (self.new ≡ self.old) × (store.new ≡ store.old) }
+        ensures quiet { self.old.settled ≡ true
+            → (result ≡ Ok tt) × (self.new ≡ self.old) × (store.new ≡ store.old) }
         ensures same { (self.new.file ≡ self.old.file) × (self.new.value ≡ self.old.value) }
         ensures refusal { IfErr result (λ e. e ≡ PairError.Fault) }
         ensures cause { HasCause self.old.file (S.world store.old) (S.world store.new) result }
@@ -188,10 +194,12 @@ impl Pair {
         self.put(store, &value)
     }
 
-    /// Whether no crash leaves another value than the one kept: so after `format`, `open`, and each put with Ok.
+    /// Whether no crash leaves another value than the one kept: so after `format`, `open`, and each
+    /// put with Ok.
     pub fn settled(&self) -> bool
         ensures value { result ≡ self.now.settled }
-        ensures holds { IsTrue result → (bytes : List ℕ) → StandsFor self.now bytes → Holds self.now.value bytes }
+        ensures holds { IsTrue result
+            → (bytes : List ℕ) → StandsFor self.now bytes → Holds self.now.value bytes }
     {
         self.settled
     }
@@ -204,16 +212,15 @@ impl Pair {
         self.value
     }
 
-    /// Closes the gate of the place that doesn't count, where it isn't closed on the disk: at most one write and one
-    /// sync.
+    /// Closes the gate of the place that doesn't count, where it isn't closed on the disk: at most
+    /// one write and one sync.
     fn close<S: Store>(&mut self, store: &mut S) -> Result<(), Failed>
-        requires { EachImage (StandsFor self.old) (file_of self.old.file (S.world store.old)) }
-        ensures run { Runs self.old.file (EachImage (StandsFor self.old)) (S.world store.old) (S.world store.new) }
-        ensures beside { Runs self.old.file (TornFrom 0 1024 (file_of self.old.file (S.world store.old)))
+        requires { Stands self.old (file_of self.old.file (S.world store.old)) }
+        ensures run { RunsPair self.old (StandsFor self.old)
             (S.world store.old) (S.world store.new) }
         ensures stands { OnOk result
-            (EachImage (StandsFor (record self.old { closed = true })) (file_of self.old.file (S.world store.new))) }
-        ensures ok { OnOk result (self.new ≡ record self.old { closed = true }) }
+            (Stands (with_closed self.old) (file_of self.old.file (S.world store.new))) }
+        ensures ok { OnOk result (self.new ≡ with_closed self.old) }
         ensures err { OnErr result (self.new ≡ self.old) }
         ensures cause { HasCause self.old.file (S.world store.old) (S.world store.new) result }
     {
@@ -224,34 +231,33 @@ impl Pair {
         Ok(())
     }
 
-    /// Writes the number and the value of the place that doesn't count, behind its closed gate: one write and one
-    /// sync.
+    /// Writes the number and the value of the place that doesn't count, behind its closed gate: one
+    /// write and one sync.
     fn fill<S: Store>(&self, store: &mut S, value: &[u8; 40]) -> Result<(), Failed>
         requires closed { self.now.closed ≡ true }
-        requires stands { EachImage (StandsFor self.now) (file_of self.now.file (S.world store.old)) }
-        ensures run { Runs self.now.file (EachImage (StandsFor self.now)) (S.world store.old) (S.world store.new) }
-        ensures beside { Runs self.now.file (TornFrom 0 1024 (file_of self.now.file (S.world store.old)))
+        requires stands { Stands self.now (file_of self.now.file (S.world store.old)) }
+        ensures run { RunsPair self.now (StandsFor self.now)
             (S.world store.old) (S.world store.new) }
-        ensures filled { OnOk result (EachImage (IsFilled self.now value.now) (file_of self.now.file (S.world store.new))) }
+        ensures filled { OnOk result
+            (EachImage (IsFilled self.now value.now) (file_of self.now.file (S.world store.new))) }
         ensures cause { HasCause self.now.file (S.world store.old) (S.world store.new) result }
     {
         let body = body_of(self.sequence.wrapping_add(1), value);
         write_synced(store, self.file, self.other_start() + 1, &body)
     }
 
-    /// Opens the gate of the place that doesn't count, and counts that place where this is done: one write and one
-    /// sync.
+    /// Opens the gate of the place that doesn't count, and counts that place where this is done:
+    /// one write and one sync.
     #[tactic(auto, unfolding(crate::specs::Places::next))]
     fn open_gate<S: Store>(&mut self, store: &mut S, value: &[u8; 40]) -> Result<(), Failed>
         requires unsettled { self.old.settled ≡ false }
-        requires filled { EachImage (IsFilled self.old value.now) (file_of self.old.file (S.world store.old)) }
-        ensures run { Runs self.old.file (EachImage (StandsFor (record self.old { tried = value.now; closed = false })))
+        requires filled { EachImage (IsFilled self.old value.now)
+            (file_of self.old.file (S.world store.old)) }
+        ensures run { RunsPair self.old (StandsFor (with_tried value.now self.old))
             (S.world store.old) (S.world store.new) }
-        ensures beside { Runs self.old.file (TornFrom 0 1024 (file_of self.old.file (S.world store.old)))
-            (S.world store.old) (S.world store.new) }
-        ensures stands { EachImage (StandsFor self.new) (file_of self.old.file (S.world store.new)) }
-        ensures ok { OnOk result (self.new ≡ record (after_put self.old value.now) { settled = false }) }
-        ensures err { OnErr result (self.new ≡ record self.old { tried = value.now; closed = false }) }
+        ensures stands { Stands self.new (file_of self.old.file (S.world store.new)) }
+        ensures ok { OnOk result (self.new ≡ unsettled (after_put self.old value.now)) }
+        ensures err { OnErr result (self.new ≡ with_tried value.now self.old) }
         ensures cause { HasCause self.old.file (S.world store.old) (S.world store.new) result }
     {
         self.tried = *value;

@@ -1,8 +1,8 @@
-// What a file's bytes are to a pair.
+//! What a file's bytes are to a pair.
 ghost use Rattle.std.specs.Prelude.{◌≡◌, ◌≢◌, ◌≤◌, ℕ, List, Result, Ok, length, slice_index, IfOk};
 ghost use Rattle.odb_pair.specs.Places.{opened, sequence, payload};
 ghost use Rattle.odb_pair.specs.Answers.{IsAnswer, result_map};
-ghost use Rattle.odb_pair.specs.CountingPlace.{kept_at};
+ghost use Rattle.odb_pair.specs.CountingPlace.{pair_at};
 ghost use Rattle.odb_pair.specs.Standing.{StandsFor};
 
 use crate::PairError;
@@ -21,8 +21,8 @@ pub struct CountingPlace {
     pub alone: bool,
 }
 
-/// The value that the bytes of a file hold, for a reader that has them all. It calls no store, and looks at the first
-/// 1,024 bytes and at the length alone.
+/// The value that the bytes of a file hold, for a reader that has them all. It calls no store, and
+/// looks at the first 1,024 bytes and at the length alone.
 ///
 /// `NoOpenPlace` and `Malformed` come as from `Pair::open`; `Fault` never comes.
 pub fn value_of(bytes: &[u8]) -> Result<[u8; 40], PairError>
@@ -32,11 +32,12 @@ pub fn value_of(bytes: &[u8]) -> Result<[u8; 40], PairError>
     Ok(read_places(bytes)?.value)
 }
 
-/// The place that counts: the one that is open, and of two the one whose number comes after the other's.
+/// The place that counts: the one that is open, and of two the one whose number comes after the
+/// other's.
 #[tactic(auto, unfolding(crate::specs::Places::gate, crate::specs::Places::next))]
 pub fn read_places(bytes: &[u8]) -> Result<CountingPlace, PairError>
     ensures answer { IsAnswer (result_map (λ c. c.value) result) (opened bytes.now) }
-    ensures stands { IfOk result (λ c. (file : ℕ) → StandsFor (kept_at file c) bytes.now) }
+    ensures stands { IfOk result (λ c. (file : ℕ) → StandsFor (pair_at file c) bytes.now) }
     ensures place { IfOk result (λ c. c.place ≤ 1) }
     ensures no_fault { result ≢ Err PairError.Fault }
 {

@@ -6,7 +6,7 @@ use Rattle.odb_lex.specs.declared.error.LexError.{LexError}
 use Rattle.odb_lex.specs.declared.token.Token.{Token}
 use Rattle.odb_lex.specs.declared.token.TokenKind.{TokenKind}
 use Rattle.odb_lex.specs.declared.token.TokenKind.TheVariants as token
-use Rattle.odb_lex.specs.Token.{IsName, IsToken, capitals, value_in}
+use Rattle.odb_lex.specs.Token.{IsName, IsToken, capitals}
 use Rattle.odb_lex.specs.Next.{next_in}
 use Rattle.odb_model.specs.declared.keyword.Keyword.{Keyword}
 use Rattle.odb_model.specs.Lexeme.{Lexeme, keyword_of, keywords, word_text, word_or_name, lexeme_of}
@@ -16,7 +16,7 @@ use Rattle.odb_parse.specs.Items.{first_and, items_behind}
 use Rattle.odb_parse.proofs.Behind.{Ascends}
 use Rattle.odb_parse.proofs.Fits.{IsRightLexeme, AreRight}
 use Rattle.odb_parse.proofs.Takes.{Takes, done, takes_first}
-use Rattle.odb_parse.proofs.Texts.{name_large, value_text}
+use Rattle.odb_parse.proofs.Texts.{name_large}
 
 -- ---- what tokens stand for
 
@@ -39,7 +39,7 @@ right_name bytes None e name = record { form = name_large bytes name; large = la
 right_token : (kind : TokenKind) (bytes : List ℕ) → IsToken kind bytes → IsRightLexeme (lexeme_of kind bytes)
 right_token token.Name bytes is = right_name bytes (keyword_of bytes) refl is
 right_token token.Number bytes is = tt
-right_token token.Quoted bytes is = value_text (value_in bytes) is.value
+right_token token.Quoted bytes is = is.value
 right_token token.Sign bytes is = tt
 
 -- ---- the items from a place on

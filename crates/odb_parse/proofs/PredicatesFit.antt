@@ -12,13 +12,13 @@ use Rattle.odb_model.specs.declared.predicate.Operand.TheVariants.{Column, Liter
 use Rattle.odb_model.specs.declared.predicate.Predicate.{Predicate}
 use Rattle.odb_model.specs.declared.predicate.Predicate.TheVariants as p
 use Rattle.odb_model.specs.Lexeme.{Lexeme, Word, Symbol}
-use Rattle.odb_model.specs.Grammar.{IsLiteral, IsOperand, IsCompare, IsTest, IsPredicate, IsBoth, IsNo, IsFilter}
+use Rattle.odb_model.specs.Grammar.{IsLiteral, IsOperand, IsCompare, IsTest, IsPredicate, IsBooleanTerm, IsBooleanFactor, IsFilter}
 use Rattle.odb_parse.specs.declared.kind.Kind.{Kind}
 use Rattle.odb_parse.specs.declared.kind.Kind.TheVariants as kind
 use Rattle.odb_parse.specs.Codes.{Item}
 use Rattle.odb_parse.specs.Reading.{Reader, ◌>>=◌, ◌>>◌, ◌<$>◌, pure, refuse, peek, skip, eat_word}
 use Rattle.odb_parse.specs.Sums.{operand}
-use Rattle.odb_parse.specs.Predicates.{compares, compared_by, null_test, tested, test, ands_from, both_of, ors_from, whole_of, no_by, no, both, predicate, filter}
+use Rattle.odb_parse.specs.Predicates.{compares, compared_by, null_test, tested, single_test, ands_from, conjunction_of, ors_from, whole_of, negation_by, negation, conjunction, predicate, filter}
 use Rattle.odb_parse.proofs.Shorter.{word_eaten}
 use Rattle.odb_parse.proofs.Fits.{Completes, Seq, seq, Nil, nil, Mapped, mapped, Fits, fits_more, fits_pure, fits_refuse, fits_shorter}
 use Rattle.odb_parse.proofs.Words.{Only, only, fits_word, fits_sign}
@@ -81,8 +81,8 @@ fits_tested left =
 to_test : (ls : List Lexeme) (out : Predicate) → Seq IsOperand Tested ls out → IsTest ls out
 to_test ls out (seq {us = us} left t) = t.goes us left
 
-pub fits_test : Fits test IsTest
-unfolding test
+pub fits_test : Fits single_test IsTest
+unfolding single_test
 fits_test = fits_more to_test (fits_then fits_operand fits_tested)
 
 -- ---- parts joined by one word, which group to the left
@@ -155,46 +155,46 @@ module _ (w : Keyword) (make : Predicate → Predicate → Predicate) (Whole Par
       fits_more (to_whole Whole Part first)
       (fits_then fits_item (λ left. fits_bounded (λ n. next n left) (Chain Whole left) (λ n. chain_fits n left) (λ n m items. chain_same n m left items)))
 
-pub fits_both_of : {item : Reader Predicate} {room : ℕ} → Fits item (IsNo room) → Fits (both_of item) (IsBoth room)
-unfolding both_of ands_from
-fits_both_of {item = item} {room = room} f =
-    fits_chain k.And p.And (IsBoth room) (IsNo room) (λ ts a g. IsBoth.no g) (λ ts us a b g h. IsBoth.and g h) item f (ands_from item) (λ left. refl) (λ turns left. refl)
+pub fits_conjunction_of : {item : Reader Predicate} {room : ℕ} → Fits item (IsBooleanFactor room) → Fits (conjunction_of item) (IsBooleanTerm room)
+unfolding conjunction_of ands_from
+fits_conjunction_of {item = item} {room = room} f =
+    fits_chain k.And p.And (IsBooleanTerm room) (IsBooleanFactor room) (λ ts a g. IsBooleanTerm.factor g) (λ ts us a b g h. IsBooleanTerm.and g h) item f (ands_from item) (λ left. refl) (λ turns left. refl)
 
-pub fits_whole_of : {item : Reader Predicate} {room : ℕ} → Fits item (IsBoth room) → Fits (whole_of item) (IsPredicate room)
+pub fits_whole_of : {item : Reader Predicate} {room : ℕ} → Fits item (IsBooleanTerm room) → Fits (whole_of item) (IsPredicate room)
 unfolding whole_of ors_from
 fits_whole_of {item = item} {room = room} f =
-    fits_chain k.Or p.Or (IsPredicate room) (IsBoth room) (λ ts a g. IsPredicate.both g) (λ ts us a b g h. IsPredicate.or g h) item f (ors_from item) (λ left. refl) (λ turns left. refl)
+    fits_chain k.Or p.Or (IsPredicate room) (IsBooleanTerm room) (λ ts a g. IsPredicate.term g) (λ ts us a b g h. IsPredicate.or g h) item f (ors_from item) (λ left. refl) (λ turns left. refl)
 
 -- ---- predicates
 
-to_not : {room : ℕ} (ls : List Lexeme) (out : Predicate) → Seq (Only (Word k.Not)) (λ _. Mapped p.Not (IsNo room)) ls out → IsNo (suc room) ls out
-to_not ls out (seq only (mapped a)) = IsNo.not a
+to_not : {room : ℕ} (ls : List Lexeme) (out : Predicate) → Seq (Only (Word k.Not)) (λ _. Mapped p.Not (IsBooleanFactor room)) ls out → IsBooleanFactor (suc room) ls out
+to_not ls out (seq only (mapped a)) = IsBooleanFactor.not a
 
 to_parens : {room : ℕ} (ls : List Lexeme) (out : Predicate)
-    → Seq (Only (Symbol s.Open)) (λ _. Seq (IsPredicate room) (λ inner. Seq (Only (Symbol s.Close)) (λ _. Nil inner))) ls out → IsNo (suc room) ls out
-to_parens ls out (seq only (seq a (seq only nil))) = IsNo.parens a
+    → Seq (Only (Symbol s.Open)) (λ _. Seq (IsPredicate room) (λ inner. Seq (Only (Symbol s.Close)) (λ _. Nil inner))) ls out → IsBooleanFactor (suc room) ls out
+to_parens ls out (seq only (seq a (seq only nil))) = IsBooleanFactor.parens a
 
-to_no : {room : ℕ} (ls : List Lexeme) (out : Predicate) → IsTest ls out → IsNo room ls out
-to_no ls out t = IsNo.test t
+to_negation : {room : ℕ} (ls : List Lexeme) (out : Predicate) → IsTest ls out → IsBooleanFactor room ls out
+to_negation ls out t = IsBooleanFactor.test t
 
-no_at : {room : ℕ} {item inner : Reader Predicate} → Fits item (IsNo room) → Fits inner (IsPredicate room) → (seen : Kind)
-    → FitsAt seen (no_by item inner seen) (IsNo (suc room))
-no_at fi fw (kind.Word k.Not) = more_at to_not (past_word k.Not (fits_with p.Not fi))
-no_at fi fw (kind.Symbol s.Open) = more_at to_parens (past_sign s.Open (fits_then fw (λ inner. fits_then (fits_sign s.Close) (λ _. fits_pure inner))))
-no_at fi fw _ = anywhere (fits_more to_no fits_test)
+negation_at : {room : ℕ} {item inner : Reader Predicate} → Fits item (IsBooleanFactor room) → Fits inner (IsPredicate room) → (seen : Kind)
+    → FitsAt seen (negation_by item inner seen) (IsBooleanFactor (suc room))
+negation_at fi fw (kind.Word k.Not) = more_at to_not (past_word k.Not (fits_with p.Not fi))
+negation_at fi fw (kind.Symbol s.Open) = more_at to_parens (past_sign s.Open (fits_then fw (λ inner. fits_then (fits_sign s.Close) (λ _. fits_pure inner))))
+negation_at fi fw _ = anywhere (fits_more to_negation fits_test)
 
-pub fits_no : (room : ℕ) → Fits (no room) (IsNo room)
-unfolding no
-fits_no zero = fits_more to_no fits_test
-fits_no (suc room) = fits_choice (no_at (fits_no room) (fits_whole_of (fits_both_of (fits_no room))))
+pub fits_negation : (room : ℕ) → Fits (negation room) (IsBooleanFactor room)
+unfolding negation
+fits_negation zero = fits_more to_negation fits_test
+fits_negation (suc room) = fits_choice (negation_at (fits_negation room) (fits_whole_of (fits_conjunction_of (fits_negation room))))
 
-pub fits_both : (room : ℕ) → Fits (both room) (IsBoth room)
-unfolding both
-fits_both room = fits_both_of (fits_no room)
+pub fits_conjunction : (room : ℕ) → Fits (conjunction room) (IsBooleanTerm room)
+unfolding conjunction
+fits_conjunction room = fits_conjunction_of (fits_negation room)
 
 pub fits_predicate : (room : ℕ) → Fits (predicate room) (IsPredicate room)
 unfolding predicate
-fits_predicate room = fits_whole_of (fits_both room)
+fits_predicate room = fits_whole_of (fits_conjunction room)
 
 -- ---- [WHERE pred]
 

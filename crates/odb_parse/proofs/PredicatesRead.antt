@@ -8,14 +8,14 @@ use Rattle.odb_model.specs.declared.predicate.Operand.{Operand}
 use Rattle.odb_model.specs.declared.predicate.Predicate.{Predicate}
 use Rattle.odb_model.specs.declared.predicate.Predicate.TheVariants as p
 use Rattle.odb_model.specs.Lexeme.{Lexeme, Word, Symbol}
-use Rattle.odb_model.specs.Grammar.{IsLiteral, IsOperand, IsCompare, IsTest, IsPredicate, IsBoth, IsNo, IsFilter}
+use Rattle.odb_model.specs.Grammar.{IsLiteral, IsOperand, IsCompare, IsTest, IsPredicate, IsBooleanTerm, IsBooleanFactor, IsFilter}
 use Rattle.odb_model.specs.Grammar as g
 use Rattle.odb_parse.specs.declared.kind.Kind.TheVariants as kind
 use Rattle.odb_parse.specs.Codes.{Item, Stands}
 use Rattle.odb_parse.specs.Items.{kind_in}
 use Rattle.odb_parse.specs.Reading.{Outcome, Reader, skip, name, same_word, sees_word, eat_word, expect_word, expect_sign}
 use Rattle.odb_parse.specs.Sums.{operand}
-use Rattle.odb_parse.specs.Predicates.{compares, tested, test, null_test, ands_from, both_of, ors_from, whole_of, no_by, no, both, predicate, filter}
+use Rattle.odb_parse.specs.Predicates.{compares, tested, single_test, null_test, ands_from, conjunction_of, ors_from, whole_of, negation_by, negation, conjunction, predicate, filter}
 use Rattle.odb_parse.proofs.Takes.{Takes, done, next, takes_split, takes_shorter}
 use Rattle.odb_parse.proofs.Following.{IsClear, clear_front, eat_word_step, sign_step, stays}
 use Rattle.odb_parse.proofs.TokensRead.{ReadsAll, operand_read}
@@ -36,8 +36,8 @@ unfolding sees_word skip
 compared_read left items rest c r (next takes) clear = rw (compares_is c, (clear_front takes clear).passes, operand_read r takes clear) refl
 
 test_read : {ls : List Lexeme} {a : Predicate} (items rest : List Item) → IsTest ls a → Takes items ls rest → IsClear rest
-    → test items ≡ Ok (a, rest)
-unfolding test operand name skip sees_word same_word null_test eat_word expect_word
+    → single_test items ≡ Ok (a, rest)
+unfolding single_test operand name skip sees_word same_word null_test eat_word expect_word
 test_read items rest (g.test {ts = ts} {us = us} {left = left} {sign = sign} l c r) takes clear =
     let split = takes_split ts (Symbol sign ∷ us) items rest takes in
     let first = operand_read l split.front (clear_front split.back clear) in
@@ -48,7 +48,7 @@ test_read items rest (g.not_null free) (next (next (next (next done)))) clear = 
 -- ---- a test begins with no NOT and no parenthesis
 
 abbrev IsPlain : List Item → Type 0
-IsPlain items = (item all : Reader Predicate) → no_by item all (kind_in items) items ≡ test items
+IsPlain items = (item all : Reader Predicate) → negation_by item all (kind_in items) items ≡ single_test items
 
 operand_plain : {ts : List Lexeme} {x : Operand} (us : List Lexeme) (items rest : List Item) → IsOperand ts x → Takes items (ts ++ us) rest
     → IsPlain items
@@ -64,11 +64,11 @@ test_plain items rest (g.null free) (next takes) = λ item all. refl
 test_plain items rest (g.not_null free) (next takes) = λ item all. refl
 
 no_test : (room : ℕ) {ls : List Lexeme} {a : Predicate} (items rest : List Item) → IsTest ls a → Takes items ls rest → IsClear rest
-    → no room items ≡ Ok (a, rest)
-unfolding no
+    → negation room items ≡ Ok (a, rest)
+unfolding negation
 no_test zero items rest t takes clear = test_read items rest t takes clear
 no_test (suc room) items rest t takes clear =
-    test_plain items rest t takes (no room) (whole_of (both_of (no room))) ∙ test_read items rest t takes clear
+    test_plain items rest t takes (negation room) (whole_of (conjunction_of (negation room))) ∙ test_read items rest t takes clear
 
 -- ---- chains that group to the left: having read some, the reader stands in its loop
 
@@ -77,157 +77,157 @@ record InLoop (o : Outcome Predicate) (from : ℕ → Predicate → Reader Predi
   pub enough : length items < turns
   pub same : o ≡ from turns a items
 
--- ---- no {AND no}
+-- ---- negation {AND negation}
 
-abbrev ReadsNo : ℕ → Type 0
-ReadsNo room = ReadsAll (no room) (IsNo room) IsClear
+abbrev ReadsNegation : ℕ → Type 0
+ReadsNegation room = ReadsAll (negation room) (IsBooleanFactor room) IsClear
 
-and_first : (room : ℕ) (a : Predicate) (items rest : List Item) → no room items ≡ Ok (a, rest) → InLoop (both room items) (ands_from (no room)) a rest
-unfolding both both_of
+and_first : (room : ℕ) (a : Predicate) (items rest : List Item) → negation room items ≡ Ok (a, rest) → InLoop (conjunction room items) (ands_from (negation room)) a rest
+unfolding conjunction conjunction_of
 and_first room a items rest e = record { turns = suc (length rest); enough = omega arith; same = rw e refl }
 
-and_turn : (room turns : ℕ) (a b : Predicate) (items mid rest : List Item) → eat_word k.And items ≡ Ok (true, mid) → no room mid ≡ Ok (b, rest)
-    → ands_from (no room) (suc turns) a items ≡ ands_from (no room) turns (p.And a b) rest
+and_turn : (room turns : ℕ) (a b : Predicate) (items mid rest : List Item) → eat_word k.And items ≡ Ok (true, mid) → negation room mid ≡ Ok (b, rest)
+    → ands_from (negation room) (suc turns) a items ≡ ands_from (negation room) turns (p.And a b) rest
 unfolding ands_from
 and_turn room turns a b items mid rest e f = rw (e, f) refl
 
-and_more : (room : ℕ) (us : List Lexeme) (o : Outcome Predicate) (a b : Predicate) (items rest : List Item) → ReadsNo room
-    → InLoop o (ands_from (no room)) a items → IsNo room us b → Takes items (Word k.And ∷ us) rest → IsClear rest
-    → InLoop o (ands_from (no room)) (p.And a b) rest
+and_more : (room : ℕ) (us : List Lexeme) (o : Outcome Predicate) (a b : Predicate) (items rest : List Item) → ReadsNegation room
+    → InLoop o (ands_from (negation room)) a items → IsBooleanFactor room us b → Takes items (Word k.And ∷ us) rest → IsClear rest
+    → InLoop o (ands_from (negation room)) (p.And a b) rest
 and_more room us o a b items rest each loop n takes clear =
     let step = eat_word_step takes clear in
     let shorter = takes_shorter step.takes in
     go loop.turns step.behind loop.enough loop.same step.reads step.fewer shorter (each us b step.behind rest n step.takes clear)
   where
-    go : (turns : ℕ) (mid : List Item) → length items < turns → o ≡ ands_from (no room) turns a items → eat_word k.And items ≡ Ok (true, mid)
-        → length mid < length items → length rest ≤ length mid → no room mid ≡ Ok (b, rest) → InLoop o (ands_from (no room)) (p.And a b) rest
+    go : (turns : ℕ) (mid : List Item) → length items < turns → o ≡ ands_from (negation room) turns a items → eat_word k.And items ≡ Ok (true, mid)
+        → length mid < length items → length rest ≤ length mid → negation room mid ≡ Ok (b, rest) → InLoop o (ands_from (negation room)) (p.And a b) rest
     go zero mid enough same e fewer shorter f = absurd (omega arith)
     go (suc turns) mid enough same e fewer shorter f =
         record { turns = turns; enough = omega arith; same = same ∙ and_turn room turns a b items mid rest e f }
 
-and_loop : {room : ℕ} {ls : List Lexeme} {a : Predicate} → IsBoth room ls a → ReadsNo room → (items rest : List Item) → Takes items ls rest
-    → IsClear rest → InLoop (both room items) (ands_from (no room)) a rest
-and_loop {room = room} (g.no {ts = ts} {a = a} n) each items rest takes clear = and_first room a items rest (each ts a items rest n takes clear)
+and_loop : {room : ℕ} {ls : List Lexeme} {a : Predicate} → IsBooleanTerm room ls a → ReadsNegation room → (items rest : List Item) → Takes items ls rest
+    → IsClear rest → InLoop (conjunction room items) (ands_from (negation room)) a rest
+and_loop {room = room} (g.factor {ts = ts} {a = a} n) each items rest takes clear = and_first room a items rest (each ts a items rest n takes clear)
 and_loop {room = room} (g.and {ts = ts} {us = us} {a = a} {b = b} l r) each items rest takes clear =
     let split = takes_split ts (Word k.And ∷ us) items rest takes in
     let loop = and_loop l each items split.mid split.front (clear_front split.back clear) in
-    and_more room us (both room items) a b split.mid rest each loop r split.back clear
+    and_more room us (conjunction room items) a b split.mid rest each loop r split.back clear
 
 and_end : (room : ℕ) (o : Outcome Predicate) (a : Predicate) (rest : List Item) → sees_word k.And rest ≡ false
-    → (turns : ℕ) → length rest < turns → o ≡ ands_from (no room) turns a rest → o ≡ Ok (a, rest)
+    → (turns : ℕ) → length rest < turns → o ≡ ands_from (negation room) turns a rest → o ≡ Ok (a, rest)
 unfolding ands_from eat_word
 and_end room o a rest none zero enough same = absurd (omega arith)
 and_end room o a rest none (suc turns) enough same = same ∙ rw none refl
 
 -- what ends a chain of ANDs
-pub record IsBothEnd (items : List Item) : Type 0 where
+pub record IsConjunctionEnd (items : List Item) : Type 0 where
   pub clear : IsClear items
   pub no_and : sees_word k.And items ≡ false
 
-abbrev ReadsBoth : ℕ → Type 0
-ReadsBoth room = ReadsAll (both room) (IsBoth room) IsBothEnd
+abbrev ReadsConjunction : ℕ → Type 0
+ReadsConjunction room = ReadsAll (conjunction room) (IsBooleanTerm room) IsConjunctionEnd
 
-both_read : (room : ℕ) → ReadsNo room → ReadsBoth room
-both_read room each ls a items rest b takes end =
+conjunction_read : (room : ℕ) → ReadsNegation room → ReadsConjunction room
+conjunction_read room each ls a items rest b takes end =
     let loop = and_loop b each items rest takes end.clear in
-    and_end room (both room items) a rest end.no_and loop.turns loop.enough loop.same
+    and_end room (conjunction room items) a rest end.no_and loop.turns loop.enough loop.same
 
--- ---- both {OR both}
+-- ---- conjunction {OR conjunction}
 
-or_first : (room : ℕ) (a : Predicate) (items rest : List Item) → both room items ≡ Ok (a, rest)
-    → InLoop (predicate room items) (ors_from (both room)) a rest
+or_first : (room : ℕ) (a : Predicate) (items rest : List Item) → conjunction room items ≡ Ok (a, rest)
+    → InLoop (predicate room items) (ors_from (conjunction room)) a rest
 unfolding predicate whole_of
 or_first room a items rest e = record { turns = suc (length rest); enough = omega arith; same = rw e refl }
 
-or_turn : (room turns : ℕ) (a b : Predicate) (items mid rest : List Item) → eat_word k.Or items ≡ Ok (true, mid) → both room mid ≡ Ok (b, rest)
-    → ors_from (both room) (suc turns) a items ≡ ors_from (both room) turns (p.Or a b) rest
+or_turn : (room turns : ℕ) (a b : Predicate) (items mid rest : List Item) → eat_word k.Or items ≡ Ok (true, mid) → conjunction room mid ≡ Ok (b, rest)
+    → ors_from (conjunction room) (suc turns) a items ≡ ors_from (conjunction room) turns (p.Or a b) rest
 unfolding ors_from
 or_turn room turns a b items mid rest e f = rw (e, f) refl
 
-or_more : (room : ℕ) (us : List Lexeme) (o : Outcome Predicate) (a b : Predicate) (items rest : List Item) → ReadsBoth room
-    → InLoop o (ors_from (both room)) a items → IsBoth room us b → Takes items (Word k.Or ∷ us) rest → IsBothEnd rest
-    → InLoop o (ors_from (both room)) (p.Or a b) rest
+or_more : (room : ℕ) (us : List Lexeme) (o : Outcome Predicate) (a b : Predicate) (items rest : List Item) → ReadsConjunction room
+    → InLoop o (ors_from (conjunction room)) a items → IsBooleanTerm room us b → Takes items (Word k.Or ∷ us) rest → IsConjunctionEnd rest
+    → InLoop o (ors_from (conjunction room)) (p.Or a b) rest
 or_more room us o a b items rest each loop n takes end =
     let step = eat_word_step takes end.clear in
     let shorter = takes_shorter step.takes in
     go loop.turns step.behind loop.enough loop.same step.reads step.fewer shorter (each us b step.behind rest n step.takes end)
   where
-    go : (turns : ℕ) (mid : List Item) → length items < turns → o ≡ ors_from (both room) turns a items → eat_word k.Or items ≡ Ok (true, mid)
-        → length mid < length items → length rest ≤ length mid → both room mid ≡ Ok (b, rest) → InLoop o (ors_from (both room)) (p.Or a b) rest
+    go : (turns : ℕ) (mid : List Item) → length items < turns → o ≡ ors_from (conjunction room) turns a items → eat_word k.Or items ≡ Ok (true, mid)
+        → length mid < length items → length rest ≤ length mid → conjunction room mid ≡ Ok (b, rest) → InLoop o (ors_from (conjunction room)) (p.Or a b) rest
     go zero mid enough same e fewer shorter f = absurd (omega arith)
     go (suc turns) mid enough same e fewer shorter f =
         record { turns = turns; enough = omega arith; same = same ∙ or_turn room turns a b items mid rest e f }
 
-at_or : (us : List Lexeme) (items rest : List Item) → Takes items (Word k.Or ∷ us) rest → IsBothEnd items
+at_or : (us : List Lexeme) (items rest : List Item) → Takes items (Word k.Or ∷ us) rest → IsConjunctionEnd items
 unfolding sees_word same_word
 at_or us items rest (next takes) = record { clear = record { passes = refl }; no_and = refl }
 
-or_loop : {room : ℕ} {ls : List Lexeme} {a : Predicate} → IsPredicate room ls a → ReadsBoth room → (items rest : List Item) → Takes items ls rest
-    → IsBothEnd rest → InLoop (predicate room items) (ors_from (both room)) a rest
-or_loop {room = room} (g.both {ts = ts} {a = a} n) each items rest takes end = or_first room a items rest (each ts a items rest n takes end)
+or_loop : {room : ℕ} {ls : List Lexeme} {a : Predicate} → IsPredicate room ls a → ReadsConjunction room → (items rest : List Item) → Takes items ls rest
+    → IsConjunctionEnd rest → InLoop (predicate room items) (ors_from (conjunction room)) a rest
+or_loop {room = room} (g.term {ts = ts} {a = a} n) each items rest takes end = or_first room a items rest (each ts a items rest n takes end)
 or_loop {room = room} (g.or {ts = ts} {us = us} {a = a} {b = b} l r) each items rest takes end =
     let split = takes_split ts (Word k.Or ∷ us) items rest takes in
     let loop = or_loop l each items split.mid split.front (at_or us split.mid rest split.back) in
     or_more room us (predicate room items) a b split.mid rest each loop r split.back end
 
 or_end : (room : ℕ) (o : Outcome Predicate) (a : Predicate) (rest : List Item) → sees_word k.Or rest ≡ false
-    → (turns : ℕ) → length rest < turns → o ≡ ors_from (both room) turns a rest → o ≡ Ok (a, rest)
+    → (turns : ℕ) → length rest < turns → o ≡ ors_from (conjunction room) turns a rest → o ≡ Ok (a, rest)
 unfolding ors_from eat_word
 or_end room o a rest none zero enough same = absurd (omega arith)
 or_end room o a rest none (suc turns) enough same = same ∙ rw none refl
 
 -- what ends a predicate
 pub record IsPredicateEnd (items : List Item) : Type 0 where
-  pub both : IsBothEnd items
+  pub both : IsConjunctionEnd items
   pub no_or : sees_word k.Or items ≡ false
 
 abbrev ReadsPredicate : ℕ → Type 0
 ReadsPredicate room = ReadsAll (predicate room) (IsPredicate room) IsPredicateEnd
 
-whole_read : (room : ℕ) → ReadsNo room → ReadsPredicate room
+whole_read : (room : ℕ) → ReadsNegation room → ReadsPredicate room
 whole_read room each ls a items rest b takes end =
-    let loop = or_loop b (both_read room each) items rest takes end.both in
+    let loop = or_loop b (conjunction_read room each) items rest takes end.both in
     or_end room (predicate room items) a rest end.no_or loop.turns loop.enough loop.same
 
--- ---- NOT no | ( pred ) | test
+-- ---- NOT negation | ( pred ) | test
 
 at_close : (items rest : List Item) → Takes items (Symbol s.Close ∷ []) rest → IsPredicateEnd items
 unfolding sees_word
 at_close items rest (next takes) = record { both = record { clear = record { passes = refl }; no_and = refl }; no_or = refl }
 
-not_read : (room : ℕ) (ts : List Lexeme) (a : Predicate) (items rest : List Item) → ReadsNo room → IsNo room ts a
-    → Takes items (Word k.Not ∷ ts) rest → IsClear rest → no (suc room) items ≡ Ok (p.Not a, rest)
-unfolding no skip
+not_read : (room : ℕ) (ts : List Lexeme) (a : Predicate) (items rest : List Item) → ReadsNegation room → IsBooleanFactor room ts a
+    → Takes items (Word k.Not ∷ ts) rest → IsClear rest → negation (suc room) items ≡ Ok (p.Not a, rest)
+unfolding negation skip
 not_read room ts a items rest each n (next {items = behind} takes) clear =
     rw ((clear_front takes clear).passes, each ts a behind rest n takes clear) refl
 
 open_read : (room at : ℕ) (a : Predicate) (items mid rest : List Item) → predicate room items ≡ Ok (a, mid)
-    → expect_sign s.Close mid ≡ Ok (tt, rest) → IsClear items → no (suc room) (Stands (Symbol s.Open) at ∷ items) ≡ Ok (a, rest)
-unfolding no skip predicate both
+    → expect_sign s.Close mid ≡ Ok (tt, rest) → IsClear items → negation (suc room) (Stands (Symbol s.Open) at ∷ items) ≡ Ok (a, rest)
+unfolding negation skip predicate conjunction
 open_read room at a items mid rest e f clear = rw (clear.passes, e, f) refl
 
-parens_read : (room : ℕ) (ts : List Lexeme) (a : Predicate) (items rest : List Item) → ReadsNo room → IsPredicate room ts a
-    → Takes items (Symbol s.Open ∷ ts ++ Symbol s.Close ∷ []) rest → IsClear rest → no (suc room) items ≡ Ok (a, rest)
+parens_read : (room : ℕ) (ts : List Lexeme) (a : Predicate) (items rest : List Item) → ReadsNegation room → IsPredicate room ts a
+    → Takes items (Symbol s.Open ∷ ts ++ Symbol s.Close ∷ []) rest → IsClear rest → negation (suc room) items ≡ Ok (a, rest)
 parens_read room ts a items rest each b (next {at = at} {items = behind} takes) clear =
     let split = takes_split ts (Symbol s.Close ∷ []) behind rest takes in
     let inner = whole_read room each ts a behind split.mid b split.front (at_close split.mid rest split.back) in
     let close = sign_step split.back clear in
     open_read room at a behind split.mid rest inner (close.reads ∙ ap (λ items. Ok (tt, items)) (stays close.takes)) (clear_front takes clear)
 
-no_more : (room : ℕ) → ReadsNo room → ReadsNo (suc room)
+no_more : (room : ℕ) → ReadsNegation room → ReadsNegation (suc room)
 no_more room each ls a items rest (g.not {ts = ts} {a = b} n) takes clear = not_read room ts b items rest each n takes clear
 no_more room each ls a items rest (g.parens {ts = ts} b) takes clear = parens_read room ts a items rest each b takes clear
 no_more room each ls a items rest (g.test t) takes clear = no_test (suc room) items rest t takes clear
 
-no_room : ReadsNo zero
+no_room : ReadsNegation zero
 no_room ls a items rest (g.test t) takes clear = no_test zero items rest t takes clear
 
-no_read : (room : ℕ) → ReadsNo room
-no_read zero = no_room
-no_read (suc room) = no_more room (no_read room)
+negation_read : (room : ℕ) → ReadsNegation room
+negation_read zero = no_room
+negation_read (suc room) = no_more room (negation_read room)
 
 pub predicate_read : (room : ℕ) → ReadsAll (predicate room) (IsPredicate room) IsPredicateEnd
-predicate_read room = whole_read room (no_read room)
+predicate_read room = whole_read room (negation_read room)
 
 -- ---- [WHERE pred]
 

@@ -11,7 +11,7 @@ use Rattle.odb_lex.specs.declared.token.Token.{Token}
 use Rattle.odb_lex.specs.declared.token.TokenKind.{TokenKind}
 use Rattle.odb_lex.specs.declared.token.TokenKind.TheVariants as token
 use Rattle.odb_lex.specs.Bytes.{is_name_byte}
-use Rattle.odb_lex.specs.Token.{IsName, IsQuoted, IsTextValue, IsToken, IfToken, capitals}
+use Rattle.odb_lex.specs.Token.{IsName, IsQuoted, IsToken, IfToken, capitals}
 use Rattle.odb_lex.proofs.Stretches.{name_ascii}
 use Rattle.odb_model.specs.declared.keyword.Keyword.{Keyword}
 use Rattle.odb_model.specs.Lexeme.{keyword_of, word_or_name, lexeme_of}
@@ -63,9 +63,6 @@ name_large bytes name =
       rest = large_bytes bytes name.rest;
       short = omega (arith, length_capitals bytes);
     }
-
-pub value_text : (value : List ℕ) → IsTextValue value → IsText value
-value_text value v = record { utf8 = v.utf8; plain = v.plain; short = v.short }
 
 -- ---- the kind of a token, from what it is
 

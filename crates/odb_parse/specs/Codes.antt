@@ -41,7 +41,10 @@ lexeme_back (Symbol s) = refl
 
 abbrev pub lexeme_code : Coded Lexeme
 lexeme_code =
-    code_by LexemeParts (coded⊎ word.the_row.coded (coded⊎ (coded_list coded_ℕ) (coded⊎ coded_ℕ (coded⊎ (coded_list coded_ℕ) sign.the_row.coded))))
+    code_by LexemeParts
+    (coded⊎ word.the_row.coded
+    (coded⊎ (coded_list coded_ℕ)
+    (coded⊎ coded_ℕ (coded⊎ (coded_list coded_ℕ) sign.the_row.coded))))
     lexeme_parts lexeme_from lexeme_back
 
 abbrev pub ItemParts : Type 0
@@ -60,7 +63,9 @@ item_back (Stands l at) = refl
 item_back (Wrong e) = refl
 
 abbrev pub item_code : Coded Item
-item_code = code_by ItemParts (coded⊎ (coded× lexeme_code coded_ℕ) wrong.the_row.coded) item_parts item_from item_back
+item_code =
+    code_by ItemParts (coded⊎ (coded× lexeme_code coded_ℕ) wrong.the_row.coded)
+    item_parts item_from item_back
 
 abbrev pub items_code : Coded (List Item)
 items_code = coded_list item_code

@@ -1,8 +1,8 @@
 -- What a cursor over a text's tokens shows: the tokens from the next one on, and what ends them.
-use Rattle.std.specs.Prelude.{◌≡◌, ℕ, zero, suc, ◌<◌, ◌≤◌, List, [], ◌∷◌, length, slice_range, Option, Some, None, Result, Ok, Err}
+use Rattle.std.specs.Prelude.{◌≡◌, ℕ, zero, suc, ◌<◌, ◌≤◌, List, [], ◌∷◌, length, Option, Some, None, Result, Ok, Err}
 use Rattle.odb_lex.specs.declared.error.LexError.{LexError}
 use Rattle.odb_lex.specs.declared.token.Token.{Token}
-use Rattle.odb_lex.specs.Token.{IfToken, IsToken}
+use Rattle.odb_lex.specs.Token.{IfToken, IsTokenOf}
 use Rattle.odb_lex.specs.Next.{next_in}
 use Rattle.odb_model.specs.Lexeme.{Lexeme, Word, Name, Number, Quoted, Symbol}
 use Rattle.odb_model.specs.Answer.{lexeme_in}
@@ -61,5 +61,5 @@ items_in t = items_of t.text.now t.next
 
 pub record IsReady (t : Inside) : Type 0 where
   pub within : IfToken t.next (λ token. (token.from < token.to) × (token.to ≤ length t.text.now))
-  pub token : IfToken t.next (λ token. IsToken token.kind (slice_range t.text.now token.from token.to))
+  pub token : IfToken t.next (IsTokenOf t.text.now)
   pub kind : t.kind ≡ kind_in (items_in t)

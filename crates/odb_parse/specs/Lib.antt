@@ -6,4 +6,4 @@ pub mod Sums
 pub mod Predicates
 pub mod Statements
 pub mod Answering
-pub mod Trimmed
+pub mod Decimals

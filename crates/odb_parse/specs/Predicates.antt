@@ -39,52 +39,56 @@ null_test (Column name) = do
 null_test (Literal v) = refuse
 
 abbrev pub tested : Operand → Reader Predicate
-tested left items = if sees_word k.Is items then null_test left items else compared_by left (compares (kind_in items)) items
+tested left items =
+    if sees_word k.Is items then null_test left items
+    else compared_by left (compares (kind_in items)) items
 
-unfoldable pub test : Reader Predicate
-test = operand >>= tested
+unfoldable pub single_test : Reader Predicate
+single_test = operand >>= tested
 
--- {AND no} behind a left side. The number is above that of the turns, so that it is never used up.
+-- {AND negation} behind a left side. The number is above that of the turns, so that it is never
+-- used up.
 unfoldable pub ands_from : Reader Predicate → ℕ → Predicate → Reader Predicate
 ands_from item zero left = refuse
 ands_from item (suc turns) left = do
   more ← eat_word k.And
   if more then item >>= (λ right. ands_from item turns (p.And left right)) else pure left
 
--- no {AND no}
-unfoldable pub both_of : Reader Predicate → Reader Predicate
-both_of item = item >>= (λ left items. ands_from item (suc (length items)) left items)
+-- negation {AND negation}
+unfoldable pub conjunction_of : Reader Predicate → Reader Predicate
+conjunction_of item = item >>= (λ left items. ands_from item (suc (length items)) left items)
 
--- {OR both}
+-- {OR conjunction}
 unfoldable pub ors_from : Reader Predicate → ℕ → Predicate → Reader Predicate
 ors_from item zero left = refuse
 ors_from item (suc turns) left = do
   more ← eat_word k.Or
   if more then item >>= (λ right. ors_from item turns (p.Or left right)) else pure left
 
--- both {OR both}
+-- conjunction {OR conjunction}
 unfoldable pub whole_of : Reader Predicate → Reader Predicate
 whole_of item = item >>= (λ left items. ors_from item (suc (length items)) left items)
 
-abbrev pub no_by : Reader Predicate → Reader Predicate → Kind → Reader Predicate
-no_by item whole (kind.Word k.Not) = skip >> p.Not <$> item
-no_by item whole (kind.Symbol s.Open) = do
+abbrev pub negation_by : Reader Predicate → Reader Predicate → Kind → Reader Predicate
+negation_by item whole (kind.Word k.Not) = skip >> p.Not <$> item
+negation_by item whole (kind.Symbol s.Open) = do
   skip
   inner ← whole
   expect_sign s.Close
   pure inner
-no_by item whole _ = test
+negation_by item whole _ = single_test
 
 -- with room for so many NOTs and parentheses inside one another
-unfoldable pub no : ℕ → Reader Predicate
-no zero = test
-no (suc room) = peek >>= no_by (no room) (whole_of (both_of (no room)))
+unfoldable pub negation : ℕ → Reader Predicate
+negation zero = single_test
+negation (suc room) =
+    peek >>= negation_by (negation room) (whole_of (conjunction_of (negation room)))
 
-unfoldable pub both : ℕ → Reader Predicate
-both room = both_of (no room)
+unfoldable pub conjunction : ℕ → Reader Predicate
+conjunction room = conjunction_of (negation room)
 
 unfoldable pub predicate : ℕ → Reader Predicate
-predicate room = whole_of (both room)
+predicate room = whole_of (conjunction room)
 
 -- [WHERE pred]
 unfoldable pub filter : Reader (Option Predicate)

@@ -1,5 +1,5 @@
--- The steps that every reader is made of. A reader goes over items from the left, and gives a value and the items behind
--- it, or a refusal and the items at which it stopped.
+-- The steps that every reader is made of. A reader goes over items from the left, and gives a value
+-- and the items behind it, or a refusal and the items at which it stopped.
 use Rattle.std.specs.Prelude.{◌≡◌, ◌≢◌, ℕ, ◌<◌, ◌≤◌, Bool, true, false, if◌then◌else◌, nat_le, List, [], ◌∷◌, length, Option, Some, Result, Ok, Err}
 use denote.Enum.Bare.{sameb}
 use Rattle.odb_model.specs.declared.keyword.Keyword.{Keyword}

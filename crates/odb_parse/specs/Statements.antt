@@ -166,7 +166,8 @@ set_shadow = do
   skip
   shadow ← name
   online ← eat_word k.Online
-  if online then pure (st.ShadowOnline shadow) else expect_word k.Offline >> pure (st.ShadowOffline shadow)
+  if online then pure (st.ShadowOnline shadow)
+      else expect_word k.Offline >> pure (st.ShadowOffline shadow)
 
 unfoldable pub set_backup : Reader Statement
 set_backup = do

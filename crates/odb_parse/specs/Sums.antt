@@ -42,7 +42,8 @@ abbrev pub term : Bool → Operand → Term
 term minus operand = record { minus = minus; operand = operand }
 
 -- the number bounds the turns; each turn takes a token
-abbrev pub terms_by : (List Term → Reader (List Term)) → List Term → Option Bool → Reader (List Term)
+abbrev pub terms_by : (List Term → Reader (List Term)) → List Term → Option Bool
+    → Reader (List Term)
 terms_by more found None = pure found
 terms_by more found (Some minus) = skip >> operand >>= (λ x. more (found ++ term minus x ∷ []))
 
@@ -59,7 +60,8 @@ expression = do
   rest ← terms
   pure (record { first = first; rest = rest })
 
--- one item and a comma, again and again. The number is above that of the turns, so that it is never used up.
+-- one item and a comma, again and again. The number is above that of the turns, so that it is never
+-- used up.
 unfoldable pub listed_from : {A : Type 0} → Reader A → ℕ → List A → Reader (List A)
 listed_from item zero found = refuse
 listed_from item (suc left) found = do

@@ -1,16 +1,16 @@
 //! Numbers as decimals without a leading zero.
 ghost use Rattle.std.specs.Prelude.{◌≡◌, ℕ, ◌^◌, ◌<◌, ◌≤◌, ◌↔◌, length, IsTrue, IfSome, IfNone};
 ghost use Rattle.std.specs.Fmt.{decimal};
-ghost use Rattle.std.specs.Str.Parse.{AllDigits, digits_value};
-ghost use Rattle.odb_parse.specs.Trimmed.{IsTrimmed};
+ghost use Rattle.std.specs.Str.Parse.{AllDigits};
+ghost use Rattle.odb_parse.specs.Decimals.{IsDecimalOf, IsTrimmed, IsValueOf};
 
 /// How many digits a number has at most.
 const MOST_DIGITS: usize = 15;
 
-/// The number below 10^15 whose decimal the bytes are, or None where they are none: where there is no
-/// byte, one that is no digit, a leading zero, or more than 15 digits. It takes no memory.
+/// The number below 10^15 whose decimal the bytes are, or None where they are none: where there is
+/// no byte, one that is no digit, a leading zero, or more than 15 digits.
 pub fn decimal_of(bytes: &[u8]) -> Option<u64>
-    ensures found { IfSome result (λ n. (n < 10 ^ 15) × (bytes.now ≡ decimal n)) }
+    ensures found { IfSome result (IsDecimalOf bytes.now) }
     ensures none { IfNone result ((n : ℕ) → n < 10 ^ 15 → bytes.now ≡ decimal n → ⊥) }
 {
     if is_trimmed(bytes) {
@@ -34,7 +34,7 @@ fn is_trimmed(bytes: &[u8]) -> bool
 /// The value of a few digits, or None where a byte is no digit.
 fn value_of(bytes: &[u8]) -> Option<u64>
     requires { length bytes.now ≤ 15 }
-    ensures found { IfSome result (λ n. AllDigits 10 bytes.now × (n ≡ digits_value 10 bytes.now)) }
+    ensures found { IfSome result (IsValueOf bytes.now) }
     ensures none { IfNone result (AllDigits 10 bytes.now → ⊥) }
 {
     let mut value = 0;

@@ -1,4 +1,5 @@
-//! Statements that define databanks, tables, shadows and backups. In each of them its first word stands next.
+//! Statements that define databanks, tables, shadows and backups. In each of them its first word
+//! stands next.
 ghost use Rattle.std.specs.Prelude.{◌≤◌, length, OnOk};
 ghost use Rattle.odb_parse.specs.Reading.{Reads};
 ghost use Rattle.odb_parse.specs.Statements as spec;
@@ -6,7 +7,7 @@ ghost use Rattle.odb_parse.specs.Statements as spec;
 use crate::ParseError;
 use crate::columns::columns;
 use crate::kind::Kind;
-use crate::statements::names;
+use crate::lists::listed;
 use crate::tokens::Tokens;
 use odb_model::{Keyword, Sign, Statement};
 use std::alloc::Global;
@@ -54,7 +55,7 @@ fn create_table(alloc: Global, tokens: &mut Tokens<'_>) -> Result<Statement, Par
     let columns = columns(alloc, tokens)?;
     tokens.expect_word(Keyword::Key)?;
     tokens.expect_sign(Sign::Open)?;
-    let key = names(alloc, tokens)?;
+    let key = listed(alloc, tokens)?;
     tokens.expect_sign(Sign::Close)?;
     tokens.expect_sign(Sign::Close)?;
     tokens.expect_word(Keyword::In)?;

@@ -1,3 +1,4 @@
+//! Why a text spells no statement.
 use odb_lex::LexError;
 use std::alloc::AllocError;
 use thiserror::Error;

@@ -1,3 +1,4 @@
+//! What a parser chooses by.
 use odb_model::{Keyword, Sign};
 
 /// What stands next in a text, as far as a parser chooses by it.

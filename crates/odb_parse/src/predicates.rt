@@ -27,41 +27,41 @@ pub fn filter(alloc: Global, tokens: &mut Tokens<'_>) -> Result<Option<Predicate
     }
 }
 
-/// `both {OR both}`, with room for so many NOTs and parentheses inside one another.
+/// `conjunction {OR conjunction}`, with room for so many NOTs and parentheses inside one another.
 #[cycle(predicate)]
 #[tactic(auto, unfolding(crate::specs::Predicates::predicate, crate::specs::Predicates::whole_of))]
 fn predicate(alloc: Global, tokens: &mut Tokens<'_>, room: u32) -> Result<Predicate, ParseError>
     ensures reads { Reads (spec.predicate room tokens.old) result tokens.new }
     ensures shorter { OnOk result (length tokens.new ≤ length tokens.old) }
 {
-    let mut all = both(alloc, tokens, room)?;
+    let mut all = conjunction(alloc, tokens, room)?;
     'ors: while tokens.eat_word(Keyword::Or)? {
-        let next = Boxed::new(alloc, both(alloc, tokens, room)?)?;
+        let next = Boxed::new(alloc, conjunction(alloc, tokens, room)?)?;
         all = Predicate::Or(Boxed::new(alloc, all)?, next);
     }
     Ok(all)
 }
 
-/// `no {AND no}`
+/// `negation {AND negation}`
 #[cycle(predicate)]
-#[tactic(auto, unfolding(crate::specs::Predicates::both, crate::specs::Predicates::both_of))]
-fn both(alloc: Global, tokens: &mut Tokens<'_>, room: u32) -> Result<Predicate, ParseError>
-    ensures reads { Reads (spec.both room tokens.old) result tokens.new }
+#[tactic(auto, unfolding(crate::specs::Predicates::conjunction, crate::specs::Predicates::conjunction_of))]
+fn conjunction(alloc: Global, tokens: &mut Tokens<'_>, room: u32) -> Result<Predicate, ParseError>
+    ensures reads { Reads (spec.conjunction room tokens.old) result tokens.new }
     ensures shorter { OnOk result (length tokens.new ≤ length tokens.old) }
 {
-    let mut all = no(alloc, tokens, room)?;
+    let mut all = negation(alloc, tokens, room)?;
     'ands: while tokens.eat_word(Keyword::And)? {
-        let next = Boxed::new(alloc, no(alloc, tokens, room)?)?;
+        let next = Boxed::new(alloc, negation(alloc, tokens, room)?)?;
         all = Predicate::And(Boxed::new(alloc, all)?, next);
     }
     Ok(all)
 }
 
-/// `NOT no | ( pred ) | test`
+/// `NOT negation | ( pred ) | test`
 #[cycle(predicate)]
-#[tactic(auto, unfolding(crate::specs::Predicates::no))]
-fn no(alloc: Global, tokens: &mut Tokens<'_>, room: u32) -> Result<Predicate, ParseError>
-    ensures reads { Reads (spec.no room tokens.old) result tokens.new }
+#[tactic(auto, unfolding(crate::specs::Predicates::negation))]
+fn negation(alloc: Global, tokens: &mut Tokens<'_>, room: u32) -> Result<Predicate, ParseError>
+    ensures reads { Reads (spec.negation room tokens.old) result tokens.new }
     ensures shorter { OnOk result (length tokens.new ≤ length tokens.old) }
 {
     if room == 0 {
@@ -70,7 +70,7 @@ fn no(alloc: Global, tokens: &mut Tokens<'_>, room: u32) -> Result<Predicate, Pa
     match tokens.peek() {
         Kind::Word(Keyword::Not) => {
             tokens.skip()?;
-            let negated = no(alloc, tokens, room - 1)?;
+            let negated = negation(alloc, tokens, room - 1)?;
             Ok(Predicate::Not(Boxed::new(alloc, negated)?))
         }
         Kind::Symbol(Sign::Open) => {
@@ -84,9 +84,9 @@ fn no(alloc: Global, tokens: &mut Tokens<'_>, room: u32) -> Result<Predicate, Pa
 }
 
 /// `operand (= | <> | < | <= | > | >=) operand | name IS [NOT] NULL`
-#[tactic(auto, unfolding(crate::specs::Predicates::test))]
+#[tactic(auto, unfolding(crate::specs::Predicates::single_test))]
 fn test(alloc: Global, tokens: &mut Tokens<'_>) -> Result<Predicate, ParseError>
-    ensures reads { Reads (spec.test tokens.old) result tokens.new }
+    ensures reads { Reads (spec.single_test tokens.old) result tokens.new }
     ensures shorter { OnOk result (length tokens.new ≤ length tokens.old) }
 {
     let left = operand(alloc, tokens)?;

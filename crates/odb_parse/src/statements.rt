@@ -1,17 +1,16 @@
 //! Statements on rows, and those that begin and end a transaction.
 ghost use Rattle.std.specs.Prelude.{◌≤◌, length, OnOk};
-ghost use Rattle.odb_parse.specs.Reading.{Reads, name};
+ghost use Rattle.odb_parse.specs.Reading.{Reads};
 ghost use Rattle.odb_parse.specs.Statements as spec;
-ghost use Rattle.odb_parse.specs.Sums.{listed, tuple};
 
 use crate::ParseError;
 use crate::definitions::{alter, create, drop_object, restore, set_object};
 use crate::kind::Kind;
+use crate::lists::listed;
 use crate::predicates::filter;
-use crate::sums::{expression, tuple};
+use crate::sums::expression;
 use crate::tokens::Tokens;
-use odb_model::{Assignment, Assignments, Keyword, Names, Sign, Statement, ValueRows, What};
-use odb_values::Frozen;
+use odb_model::{Assignment, Keyword, Sign, Statement, What};
 use std::alloc::Global;
 
 /// A statement, up to its `;`.
@@ -47,20 +46,6 @@ fn alone(tokens: &mut Tokens<'_>, statement: Statement) -> Result<Statement, Par
 {
     tokens.skip()?;
     Ok(statement)
-}
-
-/// `name {, name}`
-pub fn names(alloc: Global, tokens: &mut Tokens<'_>) -> Result<Names, ParseError>
-    ensures reads { Reads (listed name tokens.old) result tokens.new }
-    ensures shorter { OnOk result (length tokens.new ≤ length tokens.old) }
-{
-    let mut names = Vec::new(alloc);
-    'more: loop {
-        names.push(tokens.name(alloc)?)?;
-        if !tokens.eat_sign(Sign::Comma)? {
-            return Ok(Frozen::from_vec(names));
-        }
-    }
 }
 
 /// `SELECT what FROM name filter`, where SELECT stands next
@@ -106,7 +91,7 @@ fn what(alloc: Global, tokens: &mut Tokens<'_>) -> Result<What, ParseError>
             tokens.expect_sign(Sign::Close)?;
             Ok(What::Sum(column))
         }
-        _ => Ok(What::Columns(names(alloc, tokens)?)),
+        _ => Ok(What::Columns(listed(alloc, tokens)?)),
     }
 }
 
@@ -120,22 +105,8 @@ fn insert(alloc: Global, tokens: &mut Tokens<'_>) -> Result<Statement, ParseErro
     tokens.expect_word(Keyword::Into)?;
     let table = tokens.name(alloc)?;
     tokens.expect_word(Keyword::Values)?;
-    let tuples = tuples(alloc, tokens)?;
+    let tuples = listed(alloc, tokens)?;
     Ok(Statement::Insert { table, tuples })
-}
-
-/// `tuple {, tuple}`
-fn tuples(alloc: Global, tokens: &mut Tokens<'_>) -> Result<ValueRows, ParseError>
-    ensures reads { Reads (listed tuple tokens.old) result tokens.new }
-    ensures shorter { OnOk result (length tokens.new ≤ length tokens.old) }
-{
-    let mut tuples = Vec::new(alloc);
-    'more: loop {
-        tuples.push(tuple(alloc, tokens)?)?;
-        if !tokens.eat_sign(Sign::Comma)? {
-            return Ok(Frozen::from_vec(tuples));
-        }
-    }
 }
 
 /// `UPDATE name SET set {, set} filter`, where UPDATE stands next
@@ -147,7 +118,7 @@ fn update(alloc: Global, tokens: &mut Tokens<'_>) -> Result<Statement, ParseErro
     tokens.skip()?;
     let table = tokens.name(alloc)?;
     tokens.expect_word(Keyword::Set)?;
-    let sets = assignments(alloc, tokens)?;
+    let sets = listed(alloc, tokens)?;
     let filter = filter(alloc, tokens)?;
     Ok(Statement::Update {
         table,
@@ -156,23 +127,9 @@ fn update(alloc: Global, tokens: &mut Tokens<'_>) -> Result<Statement, ParseErro
     })
 }
 
-/// `set {, set}`
-fn assignments(alloc: Global, tokens: &mut Tokens<'_>) -> Result<Assignments, ParseError>
-    ensures reads { Reads (listed spec.assignment tokens.old) result tokens.new }
-    ensures shorter { OnOk result (length tokens.new ≤ length tokens.old) }
-{
-    let mut sets = Vec::new(alloc);
-    'more: loop {
-        sets.push(assignment(alloc, tokens)?)?;
-        if !tokens.eat_sign(Sign::Comma)? {
-            return Ok(Frozen::from_vec(sets));
-        }
-    }
-}
-
 /// `name = expr`
 #[tactic(auto, unfolding(crate::specs::Statements::assignment))]
-fn assignment(alloc: Global, tokens: &mut Tokens<'_>) -> Result<Assignment, ParseError>
+pub fn assignment(alloc: Global, tokens: &mut Tokens<'_>) -> Result<Assignment, ParseError>
     ensures reads { Reads (spec.assignment tokens.old) result tokens.new }
     ensures shorter { OnOk result (length tokens.new ≤ length tokens.old) }
 {

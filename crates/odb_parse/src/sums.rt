@@ -5,6 +5,7 @@ ghost use Rattle.odb_parse.specs.Sums as spec;
 
 use crate::ParseError;
 use crate::kind::Kind;
+use crate::lists::listed;
 use crate::tokens::Tokens;
 use odb_model::{Expression, Keyword, Operand, Sign, Term};
 use odb_values::{Frozen, Value, Values};
@@ -99,21 +100,7 @@ pub fn tuple(alloc: Global, tokens: &mut Tokens<'_>) -> Result<Values, ParseErro
     ensures shorter { OnOk result (length tokens.new ≤ length tokens.old) }
 {
     tokens.expect_sign(Sign::Open)?;
-    let values = literals(alloc, tokens)?;
+    let values = listed(alloc, tokens)?;
     tokens.expect_sign(Sign::Close)?;
     Ok(values)
-}
-
-/// `literal {, literal}`
-fn literals(alloc: Global, tokens: &mut Tokens<'_>) -> Result<Values, ParseError>
-    ensures reads { Reads (spec.listed spec.literal tokens.old) result tokens.new }
-    ensures shorter { OnOk result (length tokens.new ≤ length tokens.old) }
-{
-    let mut values = Vec::new(alloc);
-    'more: loop {
-        values.push(literal(alloc, tokens)?)?;
-        if !tokens.eat_sign(Sign::Comma)? {
-            return Ok(Frozen::from_vec(values));
-        }
-    }
 }

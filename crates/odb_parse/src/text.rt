@@ -12,8 +12,8 @@ use std::alloc::Global;
 
 /// The statement that a text spells, or the first refusal from the left.
 ///
-/// It goes over the text once, in time linear in its bytes, and recurs no deeper than NOTs and parentheses may stand
-/// inside one another, 64. It takes no memory but what the statement keeps.
+/// It goes over the text once, in time linear in its bytes, and recurs no deeper than NOTs and
+/// parentheses may stand inside one another, 64. It takes no memory but what the statement keeps.
 pub fn parse(alloc: Global, text: &[u8]) -> Result<Statement, ParseError>
     ensures { IsAnswerTo text.now result }
 {

@@ -15,7 +15,8 @@ use odb_values::Text;
 use std::alloc::Global;
 use std::marker::Model;
 
-/// The tokens of a text from a place on. Contracts see them as items: each token and its place, and what ends them.
+/// The tokens of a text from a place on. Contracts see them as items: each token and its place, and
+/// what ends them.
 #[derive(Drop)]
 pub struct Tokens<'a> {
     text: &'a [u8],
@@ -40,7 +41,8 @@ impl<'a> Model for Tokens<'a> {
 }
 
 impl<'a> Tokens<'a> {
-    /// The tokens of a text. It takes no memory. The error is what stands there in place of a first token.
+    /// The tokens of a text. The error is what stands there in place of a first
+    /// token.
     pub fn new(text: &'a [u8]) -> Result<Tokens<'a>, ParseError>
         ensures { IsBeginning (items_of text.now (next_in text.now 0)) result }
     {

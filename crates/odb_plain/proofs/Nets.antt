@@ -8,35 +8,36 @@ use Rattle.std.proofs.lemmas.List.Elements.{recursion_from_All}
 use Rattle.std.proofs.lemmas.Map.Views.{All-found}
 use Rattle.odb_values.specs.declared.value.Value.{Value}
 use Rattle.odb_model.specs.declared.write.Write.{Write}
-use Rattle.odb_model.specs.State.{Place, State, place_cmp, place_of, changed, after_writes}
+use Rattle.odb_model.specs.declared.table_key.TableKey.{TableKey}
+use Rattle.odb_model.specs.State.{State, table_key_cmp, table_key_of, changed, after_writes}
 use Rattle.odb_model.specs.Transaction.{last_from, last_writes, is_there, net}
-use Rattle.odb_model.proofs.Replay.{place_cmp_total, get-changed_at}
+use Rattle.odb_model.proofs.Replay.{table_key_cmp_total, get-changed_at}
 use Rattle.odb_model.proofs.Parts.{entries-retain_keys}
 use Rattle.odb_plain.proofs.Items.{take-item}
-use Rattle.odb_plain.proofs.Maps.{get-at_place, entries-from_ordered}
+use Rattle.odb_plain.proofs.Maps.{get-at_key, entries-from_ordered}
 
 -- whether a last write is kept: it puts a row, or takes one away
-abbrev pub is_kept : State → Place × Write → Bool
+abbrev pub is_kept : State → TableKey × Write → Bool
 is_kept s e = is_some e.1.row || is_some (get s e.0)
 
 -- the last writes that are kept
-abbrev pub kept : State → List (Place × Write) → List Write
+abbrev pub kept : State → List (TableKey × Write) → List Write
 kept s es = map (λ e. e.1) (filter (is_kept s) es)
 
-pub kept-cons : (s : State) (e : Place × Write) (es : List (Place × Write)) → kept s (e ∷ es) ≡ cond (is_kept s e) (e.1 ∷ kept s es) (kept s es)
+pub kept-cons : (s : State) (e : TableKey × Write) (es : List (TableKey × Write)) → kept s (e ∷ es) ≡ cond (is_kept s e) (e.1 ∷ kept s es) (kept s es)
 kept-cons s e es = elim (is_kept s e) as (λ b. map (λ x. x.1) (cond b (e ∷ filter (is_kept s) es) (filter (is_kept s) es)) ≡ cond b (e.1 ∷ kept s es) (kept s es)) [ true ↦ refl | false ↦ refl ]
 
 after_writes-append : (s : State) (ws vs : List Write) → after_writes s (ws ++ vs) ≡ after_writes (after_writes s ws) vs
 after_writes-append s [] vs = refl
-after_writes-append s (w ∷ ws) vs = after_writes-append (changed s (place_of w) w.row) ws vs
+after_writes-append s (w ∷ ws) vs = after_writes-append (changed s (table_key_of w) w.row) ws vs
 
 module _ (ws : List Write) (i : ℕ) (w : Write) (within : i < length ws) (is : w ≡ get_or ws i w) where
   -- one write more puts its row
-  pub get-after_item : (s : State) (q : Place) → get (after_writes s (take (i + 1) ws)) q ≡ cond (eq_by_cmp place_cmp q (place_of w)) w.row (get (after_writes s (take i ws)) q)
+  pub get-after_item : (s : State) (q : TableKey) → get (after_writes s (take (i + 1) ws)) q ≡ cond (eq_by_cmp table_key_cmp q (table_key_of w)) w.row (get (after_writes s (take i ws)) q)
   get-after_item s q =
       ap (λ vs. get (after_writes s vs) q) (take-item ws i w within is)
       ∙ ap (λ t. get t q) (after_writes-append s (take i ws) (w ∷ []))
-      ∙ get-changed_at (after_writes s (take i ws)) (place_of w) w.row q
+      ∙ get-changed_at (after_writes s (take i ws)) (table_key_of w) w.row q
 
 -- a write, if there is one, laid over a row
 abbrev laid_over : Option Write → Option (List Value) → Option (List Value)
@@ -47,17 +48,17 @@ laid_over-cond : (b : Bool) (w : Write) (o : Option Write) (row : Option (List V
 laid_over-cond true w o row = refl
 laid_over-cond false w o row = refl
 
-after_last_from : (s t : State) (m : FinMap place_cmp Write) (ws : List Write) (q : Place) → get t q ≡ laid_over (get m q) (get s q) → get (after_writes t ws) q ≡ laid_over (get (last_from m ws) q) (get s q)
+after_last_from : (s t : State) (m : FinMap table_key_cmp Write) (ws : List Write) (q : TableKey) → get t q ≡ laid_over (get m q) (get s q) → get (after_writes t ws) q ≡ laid_over (get (last_from m ws) q) (get s q)
 after_last_from s t m [] q same = same
 after_last_from s t m (w ∷ ws) q same =
-    after_last_from s (changed t (place_of w) w.row) (insert m (place_of w) w) ws q
-    (get-changed_at t (place_of w) w.row q ∙ ap (cond (eq_by_cmp place_cmp q (place_of w)) w.row) same
-    ∙ laid_over-cond (eq_by_cmp place_cmp q (place_of w)) w (get m q) (get s q)
-    ∙ ap (λ o. laid_over o (get s q)) (sym (get-insert place_cmp_total m (place_of w) w q)))
+    after_last_from s (changed t (table_key_of w) w.row) (insert m (table_key_of w) w) ws q
+    (get-changed_at t (table_key_of w) w.row q ∙ ap (cond (eq_by_cmp table_key_cmp q (table_key_of w)) w.row) same
+    ∙ laid_over-cond (eq_by_cmp table_key_cmp q (table_key_of w)) w (get m q) (get s q)
+    ∙ ap (λ o. laid_over o (get s q)) (sym (get-insert table_key_cmp_total m (table_key_of w) w q)))
 
 -- after writes a place has the row of its last write
-after_last : (s : State) (ws : List Write) (q : Place) (w : Write) → get (last_writes ws) q ≡ Some w → get (after_writes s ws) q ≡ w.row
-after_last s ws q w e = after_last_from s s empty ws q (sym (ap (λ o. laid_over o (get s q)) (get-empty place_cmp q))) ∙ ap (λ o. laid_over o (get s q)) e
+after_last : (s : State) (ws : List Write) (q : TableKey) (w : Write) → get (last_writes ws) q ≡ Some w → get (after_writes s ws) q ≡ w.row
+after_last s ws q w e = after_last_from s s empty ws q (sym (ap (λ o. laid_over o (get s q)) (get-empty table_key_cmp q))) ∙ ap (λ o. laid_over o (get s q)) e
 
 or_turned : (a b : Bool) → (a || b) ≡ (b || a)
 or_turned true true = refl
@@ -66,20 +67,20 @@ or_turned false true = refl
 or_turned false false = refl
 
 -- a last write is kept exactly where its place has a row before or after
-is_there-last : (s : State) (ws : List Write) (e : Place × Write) → get (last_writes ws) e.0 ≡ Some e.1 → is_there s ws e.0 ≡ is_kept s e
+is_there-last : (s : State) (ws : List Write) (e : TableKey × Write) → get (last_writes ws) e.0 ≡ Some e.1 → is_there s ws e.0 ≡ is_kept s e
 is_there-last s ws e found = ap (λ o. is_some (get s e.0) || is_some o) (after_last s ws e.0 e.1 found) ∙ or_turned (is_some (get s e.0)) (is_some e.1.row)
 
-filter_where : (p q : Place × Write → Bool) (es : List (Place × Write)) → AllByRecursion (λ e. p e ≡ q e) es → filter p es ≡ filter q es
+filter_where : (p q : TableKey × Write → Bool) (es : List (TableKey × Write)) → AllByRecursion (λ e. p e ≡ q e) es → filter p es ≡ filter q es
 filter_where p q [] same = refl
 filter_where p q (e ∷ es) same = ap (λ b. cond b (e ∷ filter p es) (filter p es)) same.0 ∙ ap (λ r. cond (q e) (e ∷ r) r) (filter_where p q es same.1)
 
 -- the net writes are the last ones that are kept
-pub kept-all : (s : State) (ws : List Write) (m : BTreeMap Place Write) → IsOrdered place_cmp m → from_entries m.entries ≡ last_writes ws → kept s m.entries ≡ net s ws
+pub kept-all : (s : State) (ws : List Write) (m : BTreeMap TableKey Write) → IsOrdered table_key_cmp m → from_entries m.entries ≡ last_writes ws → kept s m.entries ≡ net s ws
 kept-all s ws m ordered last =
-    let found = All-found place_cmp_total m ordered in
+    let found = All-found table_key_cmp_total m ordered in
     let there : AllByRecursion (λ e. is_there s ws e.0 ≡ is_kept s e) m.entries = recursion_from_All _ m.entries (λ k d within.
     let e = get_or m.entries k d in
-    is_there-last s ws e (ap (λ x. get x e.0) (sym last) ∙ get-at_place m.entries e.0 ∙ found k d within)) in
+    is_there-last s ws e (ap (λ x. get x e.0) (sym last) ∙ get-at_key m.entries e.0 ∙ found k d within)) in
     ap (map (λ e. e.1)) (sym (filter_where (λ e. is_there s ws e.0) (is_kept s) m.entries there))
     ∙ ap (λ es. map (λ e. e.1) (filter (λ e. is_there s ws e.0) es)) (sym (entries-from_ordered m.entries ordered) ∙ ap entries last)
     ∙ ap (map (λ e. e.1)) (sym (entries-retain_keys (last_writes ws) (is_there s ws)))

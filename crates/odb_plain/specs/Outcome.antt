@@ -4,13 +4,14 @@ use Rattle.odb_model.specs.declared.write.Write.{Write}
 use Rattle.odb_model.specs.declared.entry.Entry.{Entry}
 use Rattle.odb_model.specs.declared.outcome.Outcome.{Outcome}
 use Rattle.odb_model.specs.declared.statement.Statement.{Statement}
-use Rattle.odb_model.specs.State.{after_writes, replay}
-use Rattle.odb_model.specs.Meaning.{meaning}
+use Rattle.odb_model.specs.State.{replay}
 use Rattle.odb_model.specs.Reads.{reads}
-use Rattle.odb_model.specs.Transaction.{places}
+use Rattle.odb_model.specs.Transaction.{meaning_over}
 
--- the outcome is what the statement means on the history with the transaction's own writes laid over it
-pub record IsOutcomeOf (st : Statement) (h : List Entry) (own : List Write) (o : Outcome) : Type 0 where
-  pub reply : o.reply ≡ (meaning st (after_writes (replay h) own) (places own)).reply
-  pub writes : o.writes ≡ (meaning st (after_writes (replay h) own) (places own)).writes
+-- the outcome is what the statement means on the history with the transaction's write set laid over
+-- it
+pub record IsOutcomeOf (st : Statement) (h : List Entry) (write_set : List Write) (o : Outcome) :
+    Type 0 where
+  pub reply : o.reply ≡ (meaning_over st (replay h) write_set).reply
+  pub writes : o.writes ≡ (meaning_over st (replay h) write_set).writes
   pub reads : o.reads ≡ reads st (replay h)

@@ -9,8 +9,8 @@ use odb_values::Range;
 /// The number of the first entry that wrote a key of a range after it was read, or None where the
 /// reads still hold. It takes no memory.
 ///
-/// Entries up to the least number of the reads are skipped. Each later one is looked at once, each of
-/// its writes against every read that is older than it.
+/// Entries up to the least number of the reads are skipped. Each later one is looked at once, each
+/// of its writes against every read that is older than it.
 pub fn first_conflict(history: &[Entry], reads: &[Read]) -> Option<u64>
     requires { IsHistory history.now }
     ensures { result ≡ first_conflict reads.now history.now }

@@ -2,10 +2,7 @@
 ghost use Rattle.std.specs.Prelude.{◌≡◌, [], ◌∷◌, map, slice_get, unwrap_or, IfOk, IsTrue};
 ghost use Rattle.std.specs.FinMap.{entries};
 ghost use Rattle.odb_values.specs.declared.value.Value.TheVariants.{Null};
-ghost use Rattle.odb_model.specs.State.{after_writes, replay};
-ghost use Rattle.odb_model.specs.Meaning.{meaning, is_built};
-ghost use Rattle.odb_model.specs.Reads.{reads};
-ghost use Rattle.odb_model.specs.Transaction.{places};
+ghost use Rattle.odb_model.specs.Meaning.{is_built};
 ghost use Rattle.odb_plain.specs.Form.{statement_of};
 ghost use Rattle.odb_plain.specs.Outcome.{IsOutcomeOf};
 
@@ -13,35 +10,46 @@ use crate::form::{Form, form_of};
 use crate::kv::{kv_above, kv_in_dictionary, kv_point, kv_write};
 use crate::net::is_one_too_many;
 use crate::{Rows, rows_in};
-use odb_model::{Entry, Outcome, Ranges, Reply, Statement, ValueRows, Write};
+use odb_model::{Entry, Outcome, Ranges, Reply, Statement, TableKey, ValueRows, Write};
 use odb_values::{Duplicate, Frozen, List};
 use std::alloc::{AllocError, Global};
 
-/// What a statement does where the transaction has made its own writes on this history: its reply,
+/// What a statement does where the transaction's write set is laid over this history: its reply,
 /// its writes in their order, and the ranges that it reads. [`crate::is_built`] is the test of the
-/// condition. The history and the own writes stay as they are.
-///
-/// A SELECT or an INSERT goes over the whole history once, and takes memory for the rows inside the
-/// range that it reads. An INSERT behind 4,096 own writes or more takes memory for the last one of
-/// each key besides, to count the keys. The error is want of memory.
+/// condition, and the rest is as [`execute_form`] has it.
 pub fn execute(
     alloc: Global,
     statement: &Statement,
     history: &[Entry],
-    own: &[Write],
+    write_set: &[Write],
 ) -> Result<Outcome, AllocError>
     requires { IsTrue (is_built statement.now) }
-    ensures reply { IfOk result (λ outcome. outcome.reply
-        ≡ (meaning statement.now (after_writes (replay history.now) own.now) (places own.now)).reply) }
-    ensures writes { IfOk result (λ outcome. outcome.writes
-        ≡ (meaning statement.now (after_writes (replay history.now) own.now) (places own.now)).writes) }
-    ensures reads { IfOk result (λ outcome. outcome.reads ≡ reads statement.now (replay history.now)) }
+    ensures { IfOk result (IsOutcomeOf statement.now history.now write_set.now) }
 {
     match form_of(statement) {
-        Some(Form::Start | Form::Commit) => Ok(mark(alloc)),
-        Some(Form::Insert { key, value }) => insert(alloc, key, value, history, own),
-        Some(Form::KeysAbove(number)) => keys_above(alloc, number, history, own),
+        Some(form) => execute_form(alloc, form, history, write_set),
         None => unreachable!(),
+    }
+}
+
+/// What the statement of a form does where the transaction's write set is laid over this history.
+/// The history and the write set stay as they are.
+///
+/// A SELECT or an INSERT goes over the whole history once, and takes memory for the rows inside the
+/// range that it reads. An INSERT behind 4,096 writes or more takes memory for the last one of each
+/// key besides, to count the keys. The error is want of memory.
+pub fn execute_form(
+    alloc: Global,
+    form: Form,
+    history: &[Entry],
+    write_set: &[Write],
+) -> Result<Outcome, AllocError>
+    ensures { IfOk result (IsOutcomeOf (statement_of form) history.now write_set.now) }
+{
+    match form {
+        Form::Start | Form::Commit => Ok(mark(alloc)),
+        Form::Insert { key, value } => insert(alloc, key, value, history, write_set),
+        Form::KeysAbove(number) => keys_above(alloc, number, history, write_set),
     }
 }
 
@@ -73,20 +81,21 @@ fn insert(
     key: i64,
     value: i64,
     history: &[Entry],
-    own: &[Write],
+    write_set: &[Write],
 ) -> Result<Outcome, AllocError>
-    ensures { IfOk result (IsOutcomeOf (statement_of (Form.Insert key value)) history.now own.now) }
+    ensures { IfOk result
+        (IsOutcomeOf (statement_of (Form.Insert key value)) history.now write_set.now) }
 {
     let write = kv_write(alloc, key, value)?;
-    let place = (write.table, write.key.copy(alloc)?);
+    let at = TableKey::of(alloc, &write)?;
     let point = kv_point(alloc, key)?;
-    let rows = rows_in(alloc, history, own, &point)?;
+    let rows = rows_in(alloc, history, write_set, &point)?;
     let reads = vec![in alloc; kv_in_dictionary(alloc)?, point]?;
     let reads = Frozen::from_vec(reads);
-    if rows.has(&place) {
+    if rows.has(&at) {
         return Ok(refused(alloc, Reply::Duplicate, reads));
     }
-    if is_one_too_many(alloc, own, &write)? {
+    if is_one_too_many(alloc, write_set, &write)? {
         return Ok(refused(alloc, Reply::TooManyWrites, reads));
     }
     let writes = Frozen::from_vec(vec![in alloc; write]?);
@@ -102,12 +111,13 @@ fn keys_above(
     alloc: Global,
     number: i64,
     history: &[Entry],
-    own: &[Write],
+    write_set: &[Write],
 ) -> Result<Outcome, AllocError>
-    ensures { IfOk result (IsOutcomeOf (statement_of (Form.KeysAbove number)) history.now own.now) }
+    ensures { IfOk result
+        (IsOutcomeOf (statement_of (Form.KeysAbove number)) history.now write_set.now) }
 {
     let range = kv_above(alloc, number);
-    let rows = rows_in(alloc, history, own, &range)?;
+    let rows = rows_in(alloc, history, write_set, &range)?;
     let found = first_values(alloc, &rows)?;
     let reads = vec![in alloc; kv_in_dictionary(alloc)?, range]?;
     Ok(Outcome {
@@ -120,11 +130,11 @@ fn keys_above(
 /// The first value of each key, alone in a row, in key order.
 fn first_values(alloc: Global, rows: &Rows) -> Result<ValueRows, AllocError>
     ensures { IfOk result (λ found. found
-        ≡ map (λ row. unwrap_or (slice_get row.0.1 0) Null ∷ []) (entries rows.now)) }
+        ≡ map (λ row. unwrap_or (slice_get row.0.key 0) Null ∷ []) (entries rows.now)) }
 {
     let mut found = List::new(alloc);
-    for (place, _) in rows.iter() {
-        let first = vec![in alloc; place.1.as_slice()[0].copy(alloc)?]?;
+    for (at, _) in rows.iter() {
+        let first = vec![in alloc; at.key.as_slice()[0].copy(alloc)?]?;
         found.reserve()?;
         found.push(Frozen::from_vec(first));
     }

@@ -7,8 +7,8 @@ use odb_model::{Compare, Operand, Predicate, Statement, ValueRows, What};
 use odb_values::{Text, Value};
 
 /// A form of statement that is built, with its numbers.
-#[derive(Clone, Copy)]
-pub(crate) enum Form {
+#[derive(Clone, Copy, Debug, PartialEq, Eq)]
+pub enum Form {
     /// START.
     Start,
     /// COMMIT.
@@ -27,8 +27,8 @@ pub fn is_built(statement: &Statement) -> bool
     form_of(statement).is_some()
 }
 
-/// The form of a statement, or None where its form isn't built.
-pub(crate) fn form_of(statement: &Statement) -> Option<Form>
+/// The form of a statement, or None where its form isn't built. It takes no memory.
+pub fn form_of(statement: &Statement) -> Option<Form>
     ensures form { IfSome result (λ form. statement.now ≡ statement_of form) }
     ensures other { IfNone result (is_built statement.now ≡ false) }
 {

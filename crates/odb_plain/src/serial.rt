@@ -11,7 +11,7 @@ use std::alloc::{AllocError, Global};
 
 /// What a transaction that runs alone answers and leaves.
 #[derive(Debug, Drop)]
-pub struct Ran {
+pub struct SerialRun {
     /// The reply to each statement, in their order.
     pub replies: Frozen<Reply>,
     /// The net writes, by table and then in key order.
@@ -21,27 +21,33 @@ pub struct Ran {
 /// Runs the statements of a transaction one after another on the rows that a history leaves.
 /// [`crate::is_built`] is the test of the condition on each statement. The history stays as it is.
 ///
-/// It costs what [`execute`] costs for each statement, and what [`net_writes`] costs once. The error
-/// is want of memory.
-pub fn alone(alloc: Global, statements: &[Statement], history: &[Entry]) -> Result<Ran, AllocError>
+/// It costs what [`execute`] costs for each statement, and what [`net_writes`] costs once. The
+/// error is want of memory.
+pub fn alone(
+    alloc: Global,
+    statements: &[Statement],
+    history: &[Entry],
+) -> Result<SerialRun, AllocError>
     requires { All (λ statement. IsTrue (is_built statement)) statements.now }
-    ensures replies { IfOk result (λ ran. ran.replies ≡ (alone statements.now (replay history.now)).replies) }
-    ensures net { IfOk result (λ ran. ran.net ≡ (alone statements.now (replay history.now)).net) }
+    ensures replies { IfOk result
+        (λ run. run.replies ≡ (alone statements.now (replay history.now)).replies) }
+    ensures net { IfOk result
+        (λ run. run.net ≡ (alone statements.now (replay history.now)).net) }
 {
     let mut replies = List::new(alloc);
-    let mut own = List::new(alloc);
+    let mut write_set = List::new(alloc);
     for statement in statements {
         let Outcome {
             reply,
             writes,
             reads: _,
-        } = execute(alloc, statement, history, own.as_slice())?;
+        } = execute(alloc, statement, history, write_set.as_slice())?;
         replies.reserve()?;
         replies.push(reply);
-        own.append(writes)?;
+        write_set.append(writes)?;
     }
-    Ok(Ran {
+    Ok(SerialRun {
         replies: Frozen::new(replies),
-        net: net_writes(alloc, history, own.as_slice())?,
+        net: net_writes(alloc, history, write_set.as_slice())?,
     })
 }

@@ -20,7 +20,8 @@ use Rattle.odb_system.specs.Held.{Held, StandsFor}
 use Rattle.odb_play.specs.declared.player.TheConstants.{FRONT}
 use Rattle.odb_play.specs.declared.player.Stop.{Stop}
 use Rattle.odb_play.specs.declared.player.Stop.TheVariants.{WriteFault, NoMemory}
-use Rattle.odb_play.specs.Kept.{kept_of, shown_last, HasNoLf}
+use Rattle.odb_reply.specs.Unbroken.{HasNoLf}
+use Rattle.odb_play.specs.LineFront.{line_front, read_of_last}
 use Rattle.odb_play.specs.Played.{IsAt, BrokenOff, LineEnds, StopsSaying, StopsForMemory, BytesEnd, FinishEnds, EndsWith, status_of}
 use Rattle.odb_play.proofs.Lines.{FrontsTell, IsRun-snoc, ended_lines-front, says_nothing, kept_with}
 
@@ -199,23 +200,23 @@ finish_none h m held kept input answers done w durable at line =
 
 module _ (fronts_tell : FrontsTell) where
   answered_last : (h : Header) (m : Machine) (held : Held) (kept : List ℕ) (b : ℕ) (rest input : List ℕ) (answers : List Answer) (answer : Answer) → IsAt h m held kept input answers → open_line input ≡ b ∷ rest
-      → IsAnswer (shown_last kept) (machine_after m answers) answer → IsRun m (all_lines input) (answers ++ answer ∷ [])
+      → IsAnswer (read_of_last kept) (machine_after m answers) answer → IsRun m (all_lines input) (answers ++ answer ∷ [])
   answered_last h m held kept b rest input answers answer at line told =
-      let front : IsFrontOf FRONT (shown_last kept) (open_line input) =
-      subst (λ (x : List ℕ). IsFrontOf FRONT (shown_last x) (open_line input)) (sym at.line) (front-last FRONT (open_line input)) in
+      let front : IsFrontOf FRONT (read_of_last kept) (open_line input) =
+      subst (λ (x : List ℕ). IsFrontOf FRONT (read_of_last x) (open_line input)) (sym at.line) (front-last FRONT (open_line input)) in
       subst (λ (x : List (List ℕ)). IsRun m x (answers ++ answer ∷ [])) (sym (all_with input b rest line))
-      (IsRun-snoc m (ended_lines input) answers (open_line input) answer at.run (fronts_tell (shown_last kept) (open_line input) (machine_after m answers) answer front told))
+      (IsRun-snoc m (ended_lines input) answers (open_line input) answer at.run (fronts_tell (read_of_last kept) (open_line input) (machine_after m answers) answer front told))
 
   -- all of them, as the first of them
   answered_whole : (h : Header) (m : Machine) (held : Held) (kept : List ℕ) (b : ℕ) (rest input : List ℕ) (answers : List Answer) (answer : Answer) → IsAt h m held kept input answers → open_line input ≡ b ∷ rest
-      → IsAnswer (shown_last kept) (machine_after m answers) answer → IsRun m (take (length (all_lines input)) (all_lines input)) (answers ++ answer ∷ [])
+      → IsAnswer (read_of_last kept) (machine_after m answers) answer → IsRun m (take (length (all_lines input)) (all_lines input)) (answers ++ answer ∷ [])
   answered_whole h m held kept b rest input answers answer at line told =
       subst (λ (x : List (List ℕ)). IsRun m x (answers ++ answer ∷ [])) (sym (take-length (all_lines input))) (answered_last h m held kept b rest input answers answer at line told)
 
   -- the last line is answered
   finish_line_under : {T : Type 0} (h : Header) (m : Machine) (held : Held) (kept : List ℕ) (b : ℕ) (rest input : List ℕ) (answers : List Answer) (result : Result T Stop) (after : Held) (old new : World)
       → IsAt h m held kept input answers → open_line input ≡ b ∷ rest
-      → LineEnds h (shown_last kept) (machine_after m answers) result after old new → FinishEnds h m input answers result old new
+      → LineEnds h (read_of_last kept) (machine_after m answers) result after old new → FinishEnds h m input answers result old new
   finish_line_under h m held kept b rest input answers (Ok done) after old new at line ends =
       (ends.0 ∷ [], answered_last h m held kept b rest input answers ends.0 at line ends.1, ends.3)
   finish_line_under h m held kept b rest input answers (Err WriteFault) after old new at line ends = record {
@@ -239,10 +240,10 @@ module _ (fronts_tell : FrontsTell) where
   -- the same, under the header of the system
   pub finish_line : {T : Type 0} (h : Header) (m : Machine) (held : Held) (kept : List ℕ) (b : ℕ) (rest input : List ℕ) (answers : List Answer) (result : Result T Stop) (after : Held) (old new : World)
       → IsAt h m held kept input answers → open_line input ≡ b ∷ rest
-      → LineEnds held.transdb.header (shown_last kept) (machine_after m answers) result after old new → FinishEnds h m input answers result old new
+      → LineEnds held.transdb.header (read_of_last kept) (machine_after m answers) result after old new → FinishEnds h m input answers result old new
   finish_line h m held kept b rest input answers result after old new at line ends =
       finish_line_under h m held kept b rest input answers result after old new at line
-      (subst (λ (x : Header). LineEnds x (shown_last kept) (machine_after m answers) result after old new) at.header ends)
+      (subst (λ (x : Header). LineEnds x (read_of_last kept) (machine_after m answers) result after old new) at.header ends)
 
 -- a front of a byte or more of what has a byte has one too
 some_taken : (n b : ℕ) (rest : List ℕ) → 1 ≤ n → take n (b ∷ rest) ≡ [] → ⊥
@@ -250,11 +251,11 @@ some_taken zero b rest long none = omega arith
 some_taken (suc n) b rest long none = cc
 
 -- nothing is kept just where no line is left open
-pub open_none : (kept o : List ℕ) → kept ≡ kept_of o → kept ≡ [] → o ≡ []
+pub open_none : (kept o : List ℕ) → kept ≡ line_front o → kept ≡ [] → o ≡ []
 open_none kept [] same none = refl
 open_none kept (b ∷ rest) same none = absurd (some_taken (FRONT + 1) b rest (omega arith) (sym same ∙ none))
 
-pub open_some : (o : List ℕ) (kept : List ℕ) → kept ≡ kept_of o → kept ≢ [] → (b : ℕ) × (rest : List ℕ) × (o ≡ b ∷ rest)
+pub open_some : (o : List ℕ) (kept : List ℕ) → kept ≡ line_front o → kept ≢ [] → (b : ℕ) × (rest : List ℕ) × (o ≡ b ∷ rest)
 open_some [] kept same some = absurd (some same)
 open_some (b ∷ rest) kept same some = (b, rest, refl)
 

@@ -13,7 +13,7 @@ use Rattle.odb_system.specs.Durable.{IsDurable}
 use Rattle.odb_play.specs.declared.player.TheConstants.{FRONT}
 use Rattle.odb_play.specs.declared.player.Stop.{Stop}
 use Rattle.odb_play.specs.declared.player.Stop.TheVariants.{NoMemory}
-use Rattle.odb_play.specs.Kept.{HasNoLf}
+use Rattle.odb_reply.specs.Unbroken.{HasNoLf}
 use Rattle.odb_play.specs.Outside.{TouchesOnly}
 use Rattle.odb_play.specs.Played.{IsAt, BytesEnd}
 use Rattle.odb_play.proofs.Outside.{touches_talks, touches_then}

@@ -16,7 +16,8 @@ use Rattle.odb_system.specs.Held.{Held, StandsFor}
 use Rattle.odb_play.specs.declared.player.TheConstants.{FRONT}
 use Rattle.odb_play.specs.declared.player.Stop.{Stop}
 use Rattle.odb_play.specs.declared.player.Stop.TheVariants.{WriteFault, NoMemory}
-use Rattle.odb_play.specs.Kept.{kept_of, shown_ended, HasNoLf}
+use Rattle.odb_reply.specs.Unbroken.{HasNoLf}
+use Rattle.odb_play.specs.LineFront.{line_front, read_of_ended}
 use Rattle.odb_play.specs.Played.{IsAt, LineEnds, BytesEnd}
 use Rattle.odb_play.proofs.Parts.{machine_after-append}
 
@@ -58,27 +59,27 @@ lines_with input part none =
     ap ended_lines (sym (append_assoc input part (10 ∷ []))) ∙ ended_lines-ended (input ++ part)
     ∙ ap (λ x. x ++ without_cr (open_line (input ++ part)) ∷ []) (ended_lines-more input part none)
 
-pub kept_with : (kept input part : List ℕ) → kept ≡ kept_of (open_line input) → HasNoLf part
-    → kept ++ take (FRONT + 1 - length kept) part ≡ kept_of (open_line (input ++ part))
+pub kept_with : (kept input part : List ℕ) → kept ≡ line_front (open_line input) → HasNoLf part
+    → kept ++ take (FRONT + 1 - length kept) part ≡ line_front (open_line (input ++ part))
 kept_with kept input part same none =
-    ap (λ x. x ++ take (FRONT + 1 - length x) part) same ∙ kept-more (FRONT + 1) (open_line input) part ∙ ap kept_of (sym (open_line-more input part none))
+    ap (λ x. x ++ take (FRONT + 1 - length x) part) same ∙ kept-more (FRONT + 1) (open_line input) part ∙ ap line_front (sym (open_line-more input part none))
 
 module _ (fronts_tell : FrontsTell) where
   -- one line more is answered
-  answered_line : (m : Machine) (kept input part : List ℕ) (answers : List Answer) (answer : Answer) → kept ≡ kept_of (open_line input) → IsRun m (ended_lines input) answers
-      → HasNoLf part → IsAnswer (shown_ended (kept ++ take (FRONT + 1 - length kept) part)) (machine_after m answers) answer
+  answered_line : (m : Machine) (kept input part : List ℕ) (answers : List Answer) (answer : Answer) → kept ≡ line_front (open_line input) → IsRun m (ended_lines input) answers
+      → HasNoLf part → IsAnswer (read_of_ended (kept ++ take (FRONT + 1 - length kept) part)) (machine_after m answers) answer
       → IsRun m (ended_lines (input ++ (part ++ 10 ∷ []))) (answers ++ answer ∷ [])
   answered_line m kept input part answers answer line so_far none told =
-      let shown : shown_ended (kept ++ take (FRONT + 1 - length kept) part) ≡ shown_ended (kept_of (open_line (input ++ part))) = ap shown_ended (kept_with kept input part line none) in
-      let front : IsFrontOf FRONT (shown_ended (kept ++ take (FRONT + 1 - length kept) part)) (without_cr (open_line (input ++ part))) =
+      let shown : read_of_ended (kept ++ take (FRONT + 1 - length kept) part) ≡ read_of_ended (line_front (open_line (input ++ part))) = ap read_of_ended (kept_with kept input part line none) in
+      let front : IsFrontOf FRONT (read_of_ended (kept ++ take (FRONT + 1 - length kept) part)) (without_cr (open_line (input ++ part))) =
       subst (λ (x : List ℕ). IsFrontOf FRONT x (without_cr (open_line (input ++ part)))) (sym shown) (front-ended FRONT (open_line (input ++ part))) in
       subst (λ (x : List (List ℕ)). IsRun m x (answers ++ answer ∷ [])) (sym (lines_with input part none))
       (IsRun-snoc m (ended_lines input) answers (without_cr (open_line (input ++ part))) answer so_far
-      (fronts_tell (shown_ended (kept ++ take (FRONT + 1 - length kept) part)) (without_cr (open_line (input ++ part))) (machine_after m answers) answer front told))
+      (fronts_tell (read_of_ended (kept ++ take (FRONT + 1 - length kept) part)) (without_cr (open_line (input ++ part))) (machine_after m answers) answer front told))
 
   -- all of them, as the first of them
-  answered_all : (m : Machine) (kept input part : List ℕ) (answers : List Answer) (answer : Answer) → kept ≡ kept_of (open_line input) → IsRun m (ended_lines input) answers
-      → HasNoLf part → IsAnswer (shown_ended (kept ++ take (FRONT + 1 - length kept) part)) (machine_after m answers) answer
+  answered_all : (m : Machine) (kept input part : List ℕ) (answers : List Answer) (answer : Answer) → kept ≡ line_front (open_line input) → IsRun m (ended_lines input) answers
+      → HasNoLf part → IsAnswer (read_of_ended (kept ++ take (FRONT + 1 - length kept) part)) (machine_after m answers) answer
       → IsRun m (take (length (ended_lines (input ++ (part ++ 10 ∷ [])))) (ended_lines (input ++ (part ++ 10 ∷ [])))) (answers ++ answer ∷ [])
   answered_all m kept input part answers answer line so_far none told =
       subst (λ (x : List (List ℕ)). IsRun m x (answers ++ answer ∷ [])) (sym (take-length (ended_lines (input ++ (part ++ 10 ∷ []))))) (answered_line m kept input part answers answer line so_far none told)
@@ -86,7 +87,7 @@ module _ (fronts_tell : FrontsTell) where
   -- the bytes of a line came whole, and it is answered
   line_ended_under : {T : Type 0} (h : Header) (m : Machine) (held : Held) (kept input part : List ℕ) (answers : List Answer) (result : Result T Stop) (after : Held) (old new : World)
       → IsAt h m held kept input answers → HasNoLf part → after.transdb.header ≡ held.transdb.header
-      → LineEnds h (shown_ended (kept ++ take (FRONT + 1 - length kept) part)) (machine_after m answers) result after old new
+      → LineEnds h (read_of_ended (kept ++ take (FRONT + 1 - length kept) part)) (machine_after m answers) result after old new
       → BytesEnd h m after [] (input ++ (part ++ 10 ∷ [])) answers result old new
   line_ended_under h m held kept input part answers (Ok done) after old new at none same ends = (
     ends.0 ∷ [],
@@ -94,7 +95,7 @@ module _ (fronts_tell : FrontsTell) where
       run = answered_line m kept input part answers ends.0 at.line at.run none ends.1;
       stands = subst (λ (x : Machine). StandsFor after x) (sym (machine_after-append m answers (ends.0 ∷ []))) ends.2;
       header = same ∙ at.header;
-      line = ap kept_of (sym (ap open_line (sym (append_assoc input part (10 ∷ []))) ∙ open_line-ended (input ++ part)));
+      line = ap line_front (sym (ap open_line (sym (append_assoc input part (10 ∷ []))) ∙ open_line-ended (input ++ part)));
     },
     ends.3,
   )
@@ -119,8 +120,8 @@ module _ (fronts_tell : FrontsTell) where
   -- the same, under the header of the system
   pub line_ended : {T : Type 0} (h : Header) (m : Machine) (held : Held) (kept input part : List ℕ) (answers : List Answer) (result : Result T Stop) (after : Held) (old new : World)
       → IsAt h m held kept input answers → HasNoLf part → after.transdb.header ≡ held.transdb.header
-      → LineEnds held.transdb.header (shown_ended (kept ++ take (FRONT + 1 - length kept) part)) (machine_after m answers) result after old new
+      → LineEnds held.transdb.header (read_of_ended (kept ++ take (FRONT + 1 - length kept) part)) (machine_after m answers) result after old new
       → BytesEnd h m after [] (input ++ (part ++ 10 ∷ [])) answers result old new
   line_ended h m held kept input part answers result after old new at none same ends =
       line_ended_under h m held kept input part answers result after old new at none same
-      (subst (λ (x : Header). LineEnds x (shown_ended (kept ++ take (FRONT + 1 - length kept) part)) (machine_after m answers) result after old new) at.header ends)
+      (subst (λ (x : Header). LineEnds x (read_of_ended (kept ++ take (FRONT + 1 - length kept) part)) (machine_after m answers) result after old new) at.header ends)

@@ -5,7 +5,7 @@ use Rattle.std.specs.List.{list_any, position_from}
 use Rattle.std.proofs.lemmas.Iterator.Adapters.{position_from-zero}
 use Rattle.odb_model.specs.Script.{without_cr}
 use Rattle.odb_model.proofs.Fronts.{dropped_cr}
-use Rattle.odb_play.specs.Kept.{HasNoLf}
+use Rattle.odb_reply.specs.Unbroken.{HasNoLf}
 
 -- where an LF is sought and not found, there is none
 no_lf_from : (k : ℕ) (bytes : List ℕ) → position_from (λ b. b == 10) k bytes ≡ None → HasNoLf bytes

@@ -5,7 +5,7 @@ use Rattle.std.proofs.lemmas.Bool.{cases_lt}
 use Rattle.std.proofs.lemmas.Grind.{flat_map-append}
 use Rattle.std.proofs.lemmas.List.{append-nil, take-append-le, take-append-drop}
 use Rattle.std.proofs.Math.Seq.{drop-append_seam, take-length}
-use Rattle.odb_device.specs.World.{File, Moment, World, present, file_of, IsTold}
+use Rattle.odb_device.specs.World.{File, Moment, World, present, file_of, IsObservable}
 use Rattle.odb_device.specs.Images.{IsImage, EachImage, end_of}
 use Rattle.odb_device.specs.Counts.{Adds, Grows}
 use Rattle.odb_device.specs.Console.{Talks, Says, SaysNothing, AddsFront, SaysOnly}
@@ -14,18 +14,18 @@ use Rattle.odb_device.proofs.Talking.{adds_none, talks_none, talks_silent, says_
 use Rattle.odb_device.proofs.Crash.{image_has}
 use Rattle.odb_model.specs.declared.entry.Entry.{Entry}
 use Rattle.odb_model.specs.declared.reply.Reply.TheVariants.{Committed}
-use Rattle.odb_model.specs.Machine.{Machine, with_doubt, perhaps}
+use Rattle.odb_model.specs.Machine.{Machine, with_doubt, history_or_more}
 use Rattle.odb_model.specs.Script.{open_line}
 use Rattle.odb_model.specs.Play.{Answer, IsAnswer, text_of_answer, said_by, faults_told, machine_after}
-use Rattle.odb_model.specs.Told.{Tells}
+use Rattle.odb_model.specs.Acknowledged.{Acknowledges}
 use Rattle.odb_model.proofs.Cut.{HasNoLf, open_line-more, open_line-ended}
-use Rattle.odb_model.proofs.Told.{Tells-append, Tells-nothing, reply-ended}
+use Rattle.odb_model.proofs.Told.{Acknowledges-append, Acknowledges-nothing, reply-ended}
 use Rattle.odb_transdb.specs.declared.header.Header.{Header}
 use Rattle.odb_transdb.specs.Header.{first_held}
 use Rattle.odb_transdb.specs.Opened.{holding, Holds, entries_in}
 use Rattle.odb_transdb.specs.Standing.{Stands}
 use Rattle.odb_system.specs.Held.{Held, StandsFor}
-use Rattle.odb_system.specs.Durable.{perhaps_of, HoldsEither, IsDurableBy, IsDurable, HoldsThroughout, Risen}
+use Rattle.odb_system.specs.Durable.{history_or_more_of, HoldsEither, IsDurableBy, IsDurable, HoldsThroughout, Risen}
 use Rattle.odb_play.specs.Outside.{TouchesOnly, RoseBy}
 use Rattle.odb_play.specs.Crash.{OpensTo, IsKeptBy, SurvivesCrashes}
 use Rattle.odb_play.specs.Part.{IsKeptFrom, KeepsFrom, GoesOn, IsPart, IsWhole}
@@ -113,8 +113,8 @@ durable_either held file durable = either_by held held.in_doubt file refl durabl
 
 -- how much an image keeps
 
-kept_at : (h : Header) (m last : Machine) (said image : List ℕ) (es : List Entry) (n : ℕ) → Holds h es image → take n (perhaps last) ≡ es → n ≤ length (perhaps last) → length m.history ≤ n
-    → ((k : ℕ) → Tells said k → k ≤ n) → IsKeptFrom h m last said image
+kept_at : (h : Header) (m last : Machine) (said image : List ℕ) (es : List Entry) (n : ℕ) → Holds h es image → take n (history_or_more last) ≡ es → n ≤ length (history_or_more last) → length m.history ≤ n
+    → ((k : ℕ) → Acknowledges said k → k ≤ n) → IsKeptFrom h m last said image
 kept_at h m last said image es n holds front within least told = record {
   count = n;
   within = within;
@@ -124,64 +124,64 @@ kept_at h m last said image es n holds front within least told = record {
 }
 
 -- before the step's end, where nothing is said: the history before, or all after
-kept_before : (h : Header) (m last : Machine) (image : List ℕ) (old whole : List Entry) → GoesOn m last → old ≡ m.history → whole ≡ perhaps last → Holds h old image ⊎ Holds h whole image
+kept_before : (h : Header) (m last : Machine) (image : List ℕ) (old whole : List Entry) → GoesOn m last → old ≡ m.history → whole ≡ history_or_more last → Holds h old image ⊎ Holds h whole image
     → IsKeptFrom h m last [] image
 kept_before h m last image old whole goes is_old is_whole (inl holds) =
-    kept_at h m last [] image old (length m.history) holds (history_goes m last goes ∙ sym is_old) (omega (arith, goes.history, history_within last)) (omega arith) (λ k t. absurd (Tells-nothing k t))
+    kept_at h m last [] image old (length m.history) holds (history_goes m last goes ∙ sym is_old) (omega (arith, goes.history, history_within last)) (omega arith) (λ k t. absurd (Acknowledges-nothing k t))
 kept_before h m last image old whole goes is_old is_whole (inr holds) =
-    kept_at h m last [] image whole (length (perhaps last)) holds (take-length (perhaps last) ∙ sym is_whole) (omega arith) (omega (arith, goes.history, history_within last)) (λ k t. absurd (Tells-nothing k t))
+    kept_at h m last [] image whole (length (history_or_more last)) holds (take-length (history_or_more last) ∙ sym is_whole) (omega arith) (omega (arith, goes.history, history_within last)) (λ k t. absurd (Acknowledges-nothing k t))
 
 -- at its end: the history after, or all
-kept_after : (h : Header) (m last : Machine) (said image : List ℕ) (now whole : List Entry) → length m.history ≤ length last.history → now ≡ last.history → whole ≡ perhaps last
-    → ((k : ℕ) → Tells said k → k ≤ length last.history) → Holds h now image ⊎ Holds h whole image → IsKeptFrom h m last said image
+kept_after : (h : Header) (m last : Machine) (said image : List ℕ) (now whole : List Entry) → length m.history ≤ length last.history → now ≡ last.history → whole ≡ history_or_more last
+    → ((k : ℕ) → Acknowledges said k → k ≤ length last.history) → Holds h now image ⊎ Holds h whole image → IsKeptFrom h m last said image
 kept_after h m last said image now whole longer is_now is_whole told (inl holds) =
     kept_at h m last said image now (length last.history) holds (history_taken last ∙ sym is_now) (history_within last) longer told
 kept_after h m last said image now whole longer is_now is_whole told (inr holds) =
-    kept_at h m last said image whole (length (perhaps last)) holds (take-length (perhaps last) ∙ sym is_whole) (omega arith) (omega (arith, history_within last))
+    kept_at h m last said image whole (length (history_or_more last)) holds (take-length (history_or_more last) ∙ sym is_whole) (omega arith) (omega (arith, history_within last))
     (λ k t. omega (arith, told k t, history_within last))
 
 -- the machine goes on, and what was kept stays kept
 kept_goes : (h : Header) (m last later : Machine) (said image : List ℕ) → GoesOn last later → IsKeptFrom h m last said image → IsKeptFrom h m later said image
 kept_goes h m last later said image goes kept =
-    let front : take kept.count (perhaps later) ≡ take kept.count (perhaps last) =
-    ap (take kept.count) goes.longer ∙ take-append-le kept.count (perhaps last) goes.more kept.within in
+    let front : take kept.count (history_or_more later) ≡ take kept.count (history_or_more last) =
+    ap (take kept.count) goes.longer ∙ take-append-le kept.count (history_or_more last) goes.more kept.within in
     record {
       count = kept.count;
-      within = omega (arith, kept.within, ap length goes.longer, length-append (perhaps last) goes.more);
+      within = omega (arith, kept.within, ap length goes.longer, length-append (history_or_more last) goes.more);
       holds = subst (λ (x : List Entry). Holds h x image) (sym front) kept.holds;
       least = kept.least;
       told = kept.told;
     }
 
 -- what an earlier part said tells of no commit that isn't kept later
-kept_then : (h : Header) (m mid last : Machine) (first said image : List ℕ) → length m.history ≤ length mid.history → open_line first ≡ [] → ((k : ℕ) → Tells first k → k ≤ length mid.history)
+kept_then : (h : Header) (m mid last : Machine) (first said image : List ℕ) → length m.history ≤ length mid.history → open_line first ≡ [] → ((k : ℕ) → Acknowledges first k → k ≤ length mid.history)
     → IsKeptFrom h mid last said image → IsKeptFrom h m last (first ++ said) image
 kept_then h m mid last first said image longer ended tells kept = record {
   count = kept.count;
   within = kept.within;
   holds = kept.holds;
   least = omega (arith, kept.least, longer);
-  told = λ k t. elim (Tells-append first said k ended t) as (λ w. k ≤ kept.count) [ inl before ↦ omega (arith, tells k before, kept.least) | inr here ↦ kept.told k here ];
+  told = λ k t. elim (Acknowledges-append first said k ended t) as (λ w. k ≤ kept.count) [ inl before ↦ omega (arith, tells k before, kept.least) | inr here ↦ kept.told k here ];
 }
 
-kept_by : (h : Header) (m last : Machine) (said image : List ℕ) → first_held h ≡ 1 → IsKeptFrom h m last said image → IsKeptBy last said image
-kept_by h m last said image whole kept = record { count = kept.count; within = kept.within; opens = (h, kept.holds, whole); told = kept.told }
+kept_by : (h : Header) (m last : Machine) (said image : List ℕ) → first_held h ≡ 1 → IsKeptFrom h m last said image → IsKeptBy m last said image
+kept_by h m last said image whole kept = record { count = kept.count; within = kept.within; opens = (h, kept.holds, whole); least = kept.least; told = kept.told }
 
 -- the parts of the system that a machine knows
-perhaps_held : (held : Held) (m : Machine) → StandsFor held m → perhaps_of held ≡ perhaps m
-perhaps_held held m stands = ap (λ x. with_doubt x held.in_doubt) stands.history ∙ ap (λ d. with_doubt m.history d) stands.in_doubt
+more_held : (held : Held) (m : Machine) → StandsFor held m → history_or_more_of held ≡ history_or_more m
+more_held held m stands = ap (λ x. with_doubt x held.in_doubt) stands.history ∙ ap (λ d. with_doubt m.history d) stands.in_doubt
 
 -- one part behind another
 
 module _ (h : Header) (m : Machine) (xs ys : List Answer) (old mid new : World) (first : IsPart h m xs old mid) (said : Says (said_by xs) old mid)
-    (tells : (k : ℕ) → Tells (said_by xs) k → k ≤ length (machine_after m xs).history) (second : IsPart h (machine_after m xs) ys mid new) where
+    (tells : (k : ℕ) → Acknowledges (said_by xs) k → k ≤ length (machine_after m xs).history) (second : IsPart h (machine_after m xs) ys mid new) where
   abbrev between : Machine
   between = machine_after m xs
 
   abbrev last : Machine
   last = machine_after between ys
 
-  kept_first : (k : ℕ) (images : ℕ → List ℕ) → IsTold 0 old → old.time ≤ k → k ≤ mid.time → AreImages (new.moment k) images
+  kept_first : (k : ℕ) (images : ℕ → List ℕ) → IsObservable 0 old → old.time ≤ k → k ≤ mid.time → AreImages (new.moment k) images
       → Since (λ s. IsKeptFrom h m last s (images 0)) (present old).said (new.moment k).said
   kept_first k images told from before are =
       let past : new.moment k ≡ mid.moment k = second.only.past k before in
@@ -191,16 +191,16 @@ module _ (h : Header) (m : Machine) (xs ys : List Answer) (old mid new : World) 
       (since_map (λ s. IsKeptFrom h m between s (images 0)) (λ s. IsKeptFrom h m last s (images 0)) (present old).said (mid.moment k).said
       (λ s kept. kept_goes h m between last s (images 0) second.goes kept) there)
 
-  kept_second : (k : ℕ) (images : ℕ → List ℕ) → IsTold 0 old → mid.time ≤ k → k ≤ new.time → AreImages (new.moment k) images
+  kept_second : (k : ℕ) (images : ℕ → List ℕ) → IsObservable 0 old → mid.time ≤ k → k ≤ new.time → AreImages (new.moment k) images
       → Since (λ s. IsKeptFrom h m last s (images 0)) (present old).said (new.moment k).said
   kept_second k images told after to are =
-      let told_mid : IsTold 0 mid = first.only.told mid.time first.only.later (omega arith) ∙ told in
+      let told_mid : IsObservable 0 mid = first.only.told mid.time first.only.later (omega arith) ∙ told in
       since_later (λ s. IsKeptFrom h between last s (images 0)) (λ s. IsKeptFrom h m last s (images 0)) (said_by xs) (present old).said (present mid).said (new.moment k).said
       said (second.only.said k after to).0
       (λ more kept. kept_then h m between last (said_by xs) more (images 0) first.goes.history (said-ended xs) tells kept)
       (second.kept told_mid k after to images are)
 
-  kept_both : IsTold 0 old → KeepsFrom h m last old new
+  kept_both : IsObservable 0 old → KeepsFrom h m last old new
   kept_both told = λ k from to images are. elim (cases_lt mid.time k) [
     | inl after ↦ kept_second k images told (omega arith) to are
     | inr before ↦ kept_first k images told from before are
@@ -227,9 +227,9 @@ whole_then h m xs ys old mid new first second = record {
   says = subst (λ (x : List ℕ). Says x old new) (sym (said_by-append xs ys)) (says_both (said_by xs) (said_by ys) old mid new first.says second.says);
   tells = λ k t.
       let last : machine_after m (xs ++ ys) ≡ machine_after (machine_after m xs) ys = machine_after-append m xs ys in
-      let both : Tells (said_by xs ++ said_by ys) k = subst (λ (x : List ℕ). Tells x k) (said_by-append xs ys) t in
+      let both : Acknowledges (said_by xs ++ said_by ys) k = subst (λ (x : List ℕ). Acknowledges x k) (said_by-append xs ys) t in
       let here : k ≤ length (machine_after (machine_after m xs) ys).history =
-      elim (Tells-append (said_by xs) (said_by ys) k (said-ended xs) both) as (λ w. k ≤ length (machine_after (machine_after m xs) ys).history) [
+      elim (Acknowledges-append (said_by xs) (said_by ys) k (said-ended xs) both) as (λ w. k ≤ length (machine_after (machine_after m xs) ys).history) [
         | inl before ↦ omega (arith, first.tells k before, second.part.goes.history)
         | inr after ↦ second.tells k after
       ] in
@@ -238,11 +238,11 @@ whole_then h m xs ys old mid new first second = record {
 
 -- calls that only talk, while the system rests
 
-kept_resting : (h : Header) (m : Machine) (held : Held) (said image : List ℕ) → StandsFor held m → held.transdb.header ≡ h → ((k : ℕ) → Tells said k → k ≤ length m.history)
-    → Holds held.transdb.header held.history image ⊎ Holds held.transdb.header (perhaps_of held) image → IsKeptFrom h m m said image
+kept_resting : (h : Header) (m : Machine) (held : Held) (said image : List ℕ) → StandsFor held m → held.transdb.header ≡ h → ((k : ℕ) → Acknowledges said k → k ≤ length m.history)
+    → Holds held.transdb.header held.history image ⊎ Holds held.transdb.header (history_or_more_of held) image → IsKeptFrom h m m said image
 kept_resting h m held said image stands header told either =
-    kept_after h m m said image held.history (perhaps_of held) (omega arith) stands.history (perhaps_held held m stands) told
-    (subst (λ (x : Header). Holds x held.history image ⊎ Holds x (perhaps_of held) image) header either)
+    kept_after h m m said image held.history (history_or_more_of held) (omega arith) stands.history (more_held held m stands) told
+    (subst (λ (x : Header). Holds x held.history image ⊎ Holds x (history_or_more_of held) image) header either)
 
 pub whole_quiet : (h : Header) (m : Machine) (held : Held) (old new : World) → StandsFor held m → held.transdb.header ≡ h → IsDurable held (file_of 0 old) → Talks old new → SaysNothing old new
     → IsWhole h m [] old new
@@ -257,11 +257,11 @@ whole_quiet h m held old new stands header durable talks silent = record {
         let here : IsSome ((new.moment k).files 0) = ap is_some files ∙ told in
         let each : HoldsEither held ((new.moment k).files 0) = subst (HoldsEither held) (sym files) (durable_either held (file_of 0 old) durable) in
         since_same (λ s. IsKeptFrom h m m s (images 0)) (present old).said (new.moment k).said (talks_silent old new talks silent k from to)
-        (kept_resting h m held [] (images 0) stands header (λ n t. absurd (Tells-nothing n t))
-        (at_each (λ image. Holds held.transdb.header held.history image ⊎ Holds held.transdb.header (perhaps_of held) image) (new.moment k) images here each are));
+        (kept_resting h m held [] (images 0) stands header (λ n t. absurd (Acknowledges-nothing n t))
+        (at_each (λ image. Holds held.transdb.header held.history image ⊎ Holds held.transdb.header (history_or_more_of held) image) (new.moment k) images here each are));
   };
   says = silent ∙ adds_none (present old).said;
-  tells = λ k t. absurd (Tells-nothing k t);
+  tells = λ k t. absurd (Acknowledges-nothing k t);
 }
 
 -- the same behind a part
@@ -279,7 +279,7 @@ whole_none h m held w stands header durable = whole_quiet h m held w w stands he
 module _ (h : Header) (line : List ℕ) (m : Machine) (answer : Answer) (before after : Held) (bytes : List ℕ) (old mid new : World)
     (is : IsAnswer line m answer) (stood : StandsFor before m) (stands : StandsFor after answer.after) (header : before.transdb.header ≡ h) (same : after.transdb.header ≡ before.transdb.header)
     (cause : (file : ℕ) → answer.risen file ≡ true → Risen old mid file) (run : Runs 0 (HoldsThroughout before after) old mid) (durable : IsDurable after (file_of 0 mid))
-    (says : SaysOnly bytes mid new) (tells : (front rest : List ℕ) (k : ℕ) → bytes ≡ front ++ rest → Tells front k → answer.reply ≡ Committed k) where
+    (says : SaysOnly bytes mid new) (tells : (front rest : List ℕ) (k : ℕ) → bytes ≡ front ++ rest → Acknowledges front k → answer.reply ≡ Committed k) where
   goes : GoesOn m answer.after
   goes = (answer_leaves line m answer is).0
 
@@ -293,34 +293,34 @@ module _ (h : Header) (line : List ℕ) (m : Machine) (answer : Answer) (before 
   rose file up = rose_by_wider old old mid new file 1 (omega arith) (omega (arith, says.talks.faults file)) (cause file up)
 
   -- what is told of a commit while the answer is said
-  told_by : (n : ℕ) (k : ℕ) → Tells (take n bytes) k → k ≤ length answer.after.history
+  told_by : (n : ℕ) (k : ℕ) → Acknowledges (take n bytes) k → k ≤ length answer.after.history
   told_by n k t = committed_within answer.risen answer.reply answer.after k so (tells (take n bytes) (drop n bytes) k (sym (take-append-drop n bytes)) t)
 
-  kept_stepping : (k : ℕ) (images : ℕ → List ℕ) → IsTold 0 old → old.time ≤ k → k ≤ mid.time → AreImages (mid.moment k) images
+  kept_stepping : (k : ℕ) (images : ℕ → List ℕ) → IsObservable 0 old → old.time ≤ k → k ≤ mid.time → AreImages (mid.moment k) images
       → Since (λ s. IsKeptFrom h m answer.after s (images 0)) (present old).said (mid.moment k).said
   kept_stepping k images told from to are =
       let here : IsSome ((mid.moment k).files 0) = run.only.told k from to ∙ told in
-      let either = at_each (λ image. Holds before.transdb.header before.history image ⊎ Holds before.transdb.header (perhaps_of after) image) (mid.moment k) images here (run.each k from to) are in
+      let either = at_each (λ image. Holds before.transdb.header before.history image ⊎ Holds before.transdb.header (history_or_more_of after) image) (mid.moment k) images here (run.each k from to) are in
       since_same (λ s. IsKeptFrom h m answer.after s (images 0)) (present old).said (mid.moment k).said (run.only.said k from to)
-      (kept_before h m answer.after (images 0) before.history (perhaps_of after) goes stood.history (perhaps_held after answer.after stands)
-      (subst (λ (x : Header). Holds x before.history (images 0) ⊎ Holds x (perhaps_of after) (images 0)) header either))
+      (kept_before h m answer.after (images 0) before.history (history_or_more_of after) goes stood.history (more_held after answer.after stands)
+      (subst (λ (x : Header). Holds x before.history (images 0) ⊎ Holds x (history_or_more_of after) (images 0)) header either))
 
-  kept_saying : (k : ℕ) (images : ℕ → List ℕ) → IsTold 0 old → mid.time ≤ k → k ≤ new.time → AreImages (new.moment k) images
+  kept_saying : (k : ℕ) (images : ℕ → List ℕ) → IsObservable 0 old → mid.time ≤ k → k ≤ new.time → AreImages (new.moment k) images
       → Since (λ s. IsKeptFrom h m answer.after s (images 0)) (present old).said (new.moment k).said
   kept_saying k images told from to are =
       let files : (new.moment k).files 0 ≡ file_of 0 mid = says.talks.files k 0 from to in
       let told_mid : IsSome (file_of 0 mid) = run.only.told mid.time run.only.later (omega arith) ∙ told in
       let here : IsSome ((new.moment k).files 0) = ap is_some files ∙ told_mid in
       let each : HoldsEither after ((new.moment k).files 0) = subst (HoldsEither after) (sym files) (durable_either after (file_of 0 mid) durable) in
-      let either = at_each (λ image. Holds after.transdb.header after.history image ⊎ Holds after.transdb.header (perhaps_of after) image) (new.moment k) images here each are in
+      let either = at_each (λ image. Holds after.transdb.header after.history image ⊎ Holds after.transdb.header (history_or_more_of after) image) (new.moment k) images here each are in
       let fronts : AddsFront bytes (present mid).said (new.moment k).said = says.fronts k from to in
       let silent : (present mid).said ≡ (present old).said = run.only.said mid.time run.only.later (omega arith) in
       since_front (λ s. IsKeptFrom h m answer.after s (images 0)) (present old).said (new.moment k).said (take fronts.0 bytes)
       (subst (λ (o : Option (List ℕ)). Adds (take fronts.0 bytes) o (new.moment k).said) silent fronts.2)
-      (kept_after h m answer.after (take fronts.0 bytes) (images 0) after.history (perhaps_of after) goes.history stands.history (perhaps_held after answer.after stands) (told_by fronts.0)
-      (subst (λ (x : Header). Holds x after.history (images 0) ⊎ Holds x (perhaps_of after) (images 0)) (same ∙ header) either))
+      (kept_after h m answer.after (take fronts.0 bytes) (images 0) after.history (history_or_more_of after) goes.history stands.history (more_held after answer.after stands) (told_by fronts.0)
+      (subst (λ (x : Header). Holds x after.history (images 0) ⊎ Holds x (history_or_more_of after) (images 0)) (same ∙ header) either))
 
-  kept_line : IsTold 0 old → KeepsFrom h m answer.after old new
+  kept_line : IsObservable 0 old → KeepsFrom h m answer.after old new
   kept_line told = λ k from to images are. elim (cases_lt mid.time k) [
     | inl later ↦ kept_saying k images told (omega arith) to are
     | inr sooner ↦
@@ -345,7 +345,7 @@ module _ (h : Header) (line : List ℕ) (m : Machine) (answer : Answer) (before 
       record {
         part = line_part;
         says = subst (λ (x : List ℕ). Says x old new) all (subst (λ (o : Option (List ℕ)). Adds bytes o (present new).said) silent said);
-        tells = λ k t. committed_within answer.risen answer.reply answer.after k so (tells bytes [] k (sym (append-nil bytes)) (subst (λ (x : List ℕ). Tells x k) (sym all) t));
+        tells = λ k t. committed_within answer.risen answer.reply answer.after k so (tells bytes [] k (sym (append-nil bytes)) (subst (λ (x : List ℕ). Acknowledges x k) (sym all) t));
       }
 
 -- what a part keeps survives a crash
@@ -370,12 +370,12 @@ first_by es held (Some f) told each either =
     let is : IsImage f f.synced = synced_image f in
     elim (either f.synced is) as (λ w. first_held held.transdb.header ≡ 1) [
       | inl holds ↦ whole_by es held.history held f.synced (each f.synced is) holds
-      | inr holds ↦ whole_by es (perhaps_of held) held f.synced (each f.synced is) holds
+      | inr holds ↦ whole_by es (history_or_more_of held) held f.synced (each f.synced is) holds
     ]
 
 pub survives : (m : Machine) (answers : List Answer) (held : Held) (old new : World) → IsDurable held (file_of 0 old) → IsPart held.transdb.header m answers old new
     → SurvivesCrashes m (machine_after m answers) old new
 survives m answers held old new durable part = λ told each k from to images are.
     let whole : first_held held.transdb.header ≡ 1 = first_by m.history held (file_of 0 old) told each (durable_either held (file_of 0 old) durable) in
-    since_map (λ s. IsKeptFrom held.transdb.header m (machine_after m answers) s (images 0)) (λ s. IsKeptBy (machine_after m answers) s (images 0)) (present old).said (new.moment k).said
+    since_map (λ s. IsKeptFrom held.transdb.header m (machine_after m answers) s (images 0)) (λ s. IsKeptBy m (machine_after m answers) s (images 0)) (present old).said (new.moment k).said
     (λ s here. kept_by held.transdb.header m (machine_after m answers) s (images 0) whole here) (part.kept told k from to images are)

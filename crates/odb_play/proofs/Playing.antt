@@ -11,7 +11,7 @@ use Rattle.odb_model.specs.declared.status.Status.{Status}
 use Rattle.odb_model.specs.declared.status.Status.TheVariants.{Done, ReadFault, WriteFault as BadOutput, InputTooLong, NoMemory as OutOfMemory}
 use Rattle.odb_model.specs.Machine.{Machine}
 use Rattle.odb_model.specs.Script.{ended_lines, all_lines}
-use Rattle.odb_model.specs.Serial.{IsFaithful}
+use Rattle.odb_model.specs.Serial.{AnsweredFromSnapshots}
 use Rattle.odb_model.specs.Play.{Answer, IsRun, said_by, Plays, SaysAll, lines_so_far, most_input, PlayEnds}
 use Rattle.odb_model.proofs.Runs.{all_serial}
 use Rattle.odb_transdb.specs.declared.header.Header.{Header}
@@ -50,9 +50,9 @@ begins m held w stands durable = record {
 pub begins_with : (m : Machine) (held : Held) (kept : List ℕ) (w : World) → StandsFor held m → IsDurable held (file_of 0 w) → kept ≡ [] → IsPlaying held.transdb.header m held kept 0 w w
 begins_with m held kept w stands durable none = subst (λ (x : List ℕ). IsPlaying held.transdb.header m held x 0 w w) (sym none) (begins m held w stands durable)
 
-plays : (h : Header) (m : Machine) (lines : List (List ℕ)) (answers : List Answer) (old new : World) → IsFaithful m → IsRun m lines answers → IsPart h m answers old new
+plays : (h : Header) (m : Machine) (lines : List (List ℕ)) (answers : List Answer) (old new : World) → AnsweredFromSnapshots m → IsRun m lines answers → IsPart h m answers old new
     → Plays (RoseBy old new) m lines answers
-plays h m lines answers old new faithful run part = record { run = run; serial = all_serial m lines answers faithful run; risen = part.risen; counted = part.counted }
+plays h m lines answers old new answered run part = record { run = run; serial = all_serial m lines answers answered run; risen = part.risen; counted = part.counted }
 
 -- a piece was taken that isn't the end of the input
 pub record TookPiece (piece : List ℕ) (now new : World) : Type 0 where
@@ -72,7 +72,7 @@ so_far true n input = first_of_all n input
 so_far false n input = (n, refl)
 
 -- it ended before the last of the lines so far was answered and its answer said
-module _ (m : Machine) (faithful : IsFaithful m) (first : Held) (start mid new : World) (begun : IsDurable first (file_of 0 start)) (answers : List Answer)
+module _ (m : Machine) (answered : AnsweredFromSnapshots m) (first : Held) (start mid new : World) (begun : IsDurable first (file_of 0 start)) (answers : List Answer)
     (whole : IsWhole first.transdb.header m answers start mid) (input : List ℕ) (takes : Takes input start new) (few : length input ≤ most_input) (lines : List (List ℕ))
     (fronts : (n : ℕ) → (k : ℕ) × (take k (lines_so_far new.talk.has_ended input) ≡ take n lines)) where
   abbrev h : Header
@@ -100,7 +100,7 @@ module _ (m : Machine) (faithful : IsFaithful m) (first : Held) (start mid new :
           few,
           (
             stops.count,
-            plays h m (take stops.count lines_now) all start new faithful stops.run part,
+            plays h m (take stops.count lines_now) all start new answered stops.run part,
             told,
             stops.last,
             stops.broken.front,
@@ -131,7 +131,7 @@ module _ (m : Machine) (faithful : IsFaithful m) (first : Held) (start mid new :
           few,
           (
             stops.count,
-            plays h m (take stops.count lines_now) all start new faithful stops.run part,
+            plays h m (take stops.count lines_now) all start new answered stops.run part,
             told,
             stops.untold,
             sym (append_assoc answers stops.more stops.untold),
@@ -157,7 +157,7 @@ all_played m first answers start new status input begun whole takes ends = recor
   crash = survives m answers first start new begun whole.part;
 }
 
-module _ (m : Machine) (faithful : IsFaithful m) (first held : Held) (kept : List ℕ) (taken : ℕ) (start now : World) (begun : IsDurable first (file_of 0 start))
+module _ (m : Machine) (answered : AnsweredFromSnapshots m) (first held : Held) (kept : List ℕ) (taken : ℕ) (start now : World) (begun : IsDurable first (file_of 0 start))
     (playing : IsPlaying first.transdb.header m held kept taken start now) (durable : IsDurable held (file_of 0 now)) where
   abbrev header : Header
   header = first.transdb.header
@@ -200,10 +200,10 @@ module _ (m : Machine) (faithful : IsFaithful m) (first held : Held) (kept : Lis
     pub stops_any : (T : Type 0) (stop : Stop) → BytesEnd {T = T} header m after line (playing.input ++ piece) playing.answers (Err stop) mid new → IsPlayed m (status_of stop) start new
     unfolding input_now
     stops_any T WriteFault ends =
-        saying_played m faithful first start mid new begun playing.answers (taking mid took.talks took.silent) input_now takes_now few_now (ended_lines input_now)
+        saying_played m answered first start mid new begun playing.answers (taking mid took.talks took.silent) input_now takes_now few_now (ended_lines input_now)
         (λ n. so_far new.talk.has_ended n input_now) ends
     stops_any T NoMemory ends =
-        memory_played m faithful first start mid new begun playing.answers (taking mid took.talks took.silent) input_now takes_now few_now (ended_lines input_now)
+        memory_played m answered first start mid new begun playing.answers (taking mid took.talks took.silent) input_now takes_now few_now (ended_lines input_now)
         (λ n. so_far new.talk.has_ended n input_now) ends
 
     -- the same, where it did not stop
@@ -219,7 +219,7 @@ module _ (m : Machine) (faithful : IsFaithful m) (first held : Held) (kept : Lis
       all_played m first playing.answers start new ReadFault playing.input begun whole (taken_still playing.input start now new playing.takes still) (
         still.1 ∙ playing.ended,
         subst (λ (n : ℕ). n ≤ most_input) (sym playing.count) few,
-        (plays header m (ended_lines playing.input) playing.answers start new faithful playing.at.run whole.part, refl),
+        (plays header m (ended_lines playing.input) playing.answers start new answered playing.at.run whole.part, refl),
       )
 
   -- there is more input than a script may have
@@ -232,7 +232,7 @@ module _ (m : Machine) (faithful : IsFaithful m) (first held : Held) (kept : Lis
       (adds_then playing.input byte start.talk.taken now.talk.taken new.talk.taken playing.takes took.takes) (
         length-append playing.input byte ∙ ap (λ n. n + length byte) (playing.count ∙ full) ∙ ap (λ n. most_input + n) one,
         subst (λ (x : List ℕ). SaysAll (RoseBy start new) m (ended_lines x) playing.answers (said_by playing.answers)) (sym front)
-            (plays header m (ended_lines playing.input) playing.answers start new faithful playing.at.run whole.part, refl),
+            (plays header m (ended_lines playing.input) playing.answers start new answered playing.at.run whole.part, refl),
       )
 
   -- the input has ended
@@ -257,15 +257,15 @@ module _ (m : Machine) (faithful : IsFaithful m) (first held : Held) (kept : Lis
         let all : List Answer = playing.answers ++ ends.0 in
         let whole : IsWhole header m all start new = whole_then header m playing.answers ends.0 start mid new (taking mid talks nothing) ends.2 in
         all_played m first all start new Done playing.input begun whole last_takes
-        (last_ended, last_few, (plays header m (all_lines playing.input) all start new faithful ends.1 whole.part, refl))
+        (last_ended, last_few, (plays header m (all_lines playing.input) all start new answered ends.1 whole.part, refl))
 
     -- by the status
     pub ends_any : (status : Status) → EndsWith header m playing.input playing.answers status mid new → IsPlayed m status start new
     ends_any Done ends = ends_done (tt {0}) ends
     ends_any BadOutput ends =
-        saying_played m faithful first start mid new begun playing.answers (taking mid talks nothing) playing.input last_takes last_few (all_lines playing.input) all_now ends
+        saying_played m answered first start mid new begun playing.answers (taking mid talks nothing) playing.input last_takes last_few (all_lines playing.input) all_now ends
     ends_any OutOfMemory ends =
-        memory_played m faithful first start mid new begun playing.answers (taking mid talks nothing) playing.input last_takes last_few (all_lines playing.input) all_now ends
+        memory_played m answered first start mid new begun playing.answers (taking mid talks nothing) playing.input last_takes last_few (all_lines playing.input) all_now ends
     ends_any status ends = absurd ends
 
 -- a piece of n bytes was taken to the front of a buffer

@@ -2,7 +2,7 @@
 use Rattle.std.proofs.Common.{◌≡◌, inl, inr, ℕ, ◌+◌, ◌-◌, Bool, false, List, [], ◌∷◌, length, drop, Option, Some, None, refl, sym, ◌∙◌, ap, subst, arith}
 use Rattle.std.specs.Prelude.{IsSome, IfSome, is_some, take}
 use Rattle.std.proofs.lemmas.Bool.{cases_lt}
-use Rattle.odb_device.specs.World.{File, Moment, Talk, World, present, file_of, IsTold}
+use Rattle.odb_device.specs.World.{File, Moment, Talk, World, present, file_of, IsObservable}
 use Rattle.odb_device.specs.Images.{EachImage}
 use Rattle.odb_device.specs.Counts.{Adds}
 use Rattle.odb_device.specs.Moments.{Runs, AreImages}
@@ -15,7 +15,7 @@ use Rattle.odb_model.specs.Script.{ended_lines, all_lines}
 use Rattle.odb_model.specs.State.{IsNumberedFrom}
 use Rattle.odb_model.specs.Width.{records_width}
 use Rattle.odb_model.specs.Play.{Answer, IsRun, Plays, PlayEnds, lines_so_far, most_input, machine_after}
-use Rattle.odb_model.proofs.Told.{Tells-nothing}
+use Rattle.odb_model.proofs.Told.{Acknowledges-nothing}
 use Rattle.odb_transdb.specs.declared.header.Header.{Header}
 use Rattle.odb_transdb.specs.Header.{first_held, active_first}
 use Rattle.odb_transdb.specs.Opened.{Opened, holding, opened, entries_of, entries_in}
@@ -28,7 +28,7 @@ use Rattle.odb_play.specs.Crash.{OpensTo, IsKeptBy, SurvivesCrashes}
 use Rattle.odb_play.specs.Part.{GoesOn}
 use Rattle.odb_play.specs.Played.{IsPlayed}
 use Rattle.odb_play.specs.Started.{IsStarted, RefusesOpening}
-use Rattle.odb_play.specs.Opening.{IsOpeningOf, IsPlayedFrom, IsRefused, PlayOutcome}
+use Rattle.odb_play.specs.Opening.{HoldsFrom, IsOpeningOf, IsPlayedFrom, IsRefused, PlayOutcome}
 use Rattle.odb_play.proofs.Outside.{touches_run, touches_then, rose_by_wider, rise_wider}
 use Rattle.odb_play.proofs.Steps.{goes_none, goes_then, history_goes, history_within, answer_leaves}
 use Rattle.odb_play.proofs.Parts.{at_each, since_same}
@@ -105,27 +105,28 @@ module _ (m : Machine) (status : Status) (old mid new : World) (run : Runs 0 (Ke
   goes = goes_played (RoseBy mid new) m status mid.talk.has_ended new.talk.has_ended played.input played.answers played.output played.ends
 
   -- before the first step an image holds the whole history
-  kept_whole : (image : List ℕ) → OpensTo m.history image → IsKeptBy last [] image
+  kept_whole : (image : List ℕ) → OpensTo m.history image → IsKeptBy m last [] image
   kept_whole image opens = record {
     count = length m.history;
     within = omega (arith, goes.history, history_within last);
     opens = subst (λ (es : List Entry). OpensTo es image) (sym (history_goes m last goes)) opens;
-    told = λ k t. absurd (Tells-nothing k t);
+    least = omega arith;
+    told = λ k t. absurd (Acknowledges-nothing k t);
   }
 
   crash : SurvivesCrashes m last old new
   crash told each = λ k from to images are. elim (cases_lt mid.time k) [
     | inl after ↦
-        let told_mid : IsTold 0 mid = run.only.told mid.time run.only.later (omega arith) ∙ told in
+        let told_mid : IsObservable 0 mid = run.only.told mid.time run.only.later (omega arith) ∙ told in
         let each_mid : EachImage (OpensTo m.history) (file_of 0 mid) = keeps_opens m.history (file_of 0 old) (file_of 0 mid) told each (run_end 0 (KeepsOpened (file_of 0 old)) old mid run) in
-        subst (λ (o : Option (List ℕ)). IfSome o (λ before. IfSome (new.moment k).said (λ said. IsKeptBy last (drop (length before) said) (images 0)))) silent
+        subst (λ (o : Option (List ℕ)). IfSome o (λ before. IfSome (new.moment k).said (λ said. IsKeptBy m last (drop (length before) said) (images 0)))) silent
         (played.crash told_mid each_mid k (omega arith) to images are)
     | inr before ↦
         let past : new.moment k ≡ mid.moment k = played.only.past k before in
         let here : IsSome ((mid.moment k).files 0) = run.only.told k from before ∙ told in
         let each_here : EachImage (OpensTo m.history) ((mid.moment k).files 0) = keeps_opens m.history (file_of 0 old) ((mid.moment k).files 0) told each (run.each k from before) in
         let opens : OpensTo m.history (images 0) = at_each (OpensTo m.history) (mid.moment k) images here each_here (subst (λ (x : Moment). AreImages x images) past are) in
-        since_same (λ said. IsKeptBy last said (images 0)) (present old).said (new.moment k).said (ap (λ (x : Moment). x.said) past ∙ run.only.said k from before) (kept_whole (images 0) opens)
+        since_same (λ said. IsKeptBy m last said (images 0)) (present old).said (new.moment k).said (ap (λ (x : Moment). x.said) past ∙ run.only.said k from before) (kept_whole (images 0) opens)
   ]
 
   pub played_behind : IsPlayed m status old new
@@ -144,16 +145,16 @@ module _ (m : Machine) (status : Status) (old mid new : World) (run : Runs 0 (Ke
 
 -- what was opened, as it is told of
 played_opens : (held : Held) (file : Option File) → IfSome file (λ f. opened f.bytes ≡ holding held.transdb.header held.history)
-    → IfSome file (λ f. (h : Header) × (opened f.bytes ≡ holding h held.history) × (side_of held.transdb.header ≡ side_of h))
-played_opens held None opens = tt
-played_opens held (Some f) opens = (held.transdb.header, opens, refl)
+    → first_held held.transdb.header ≡ 1 → IfSome file (λ f. HoldsFrom (side_of held.transdb.header) held.history (opened f.bytes))
+played_opens held None opens whole = tt
+played_opens held (Some f) opens whole = (held.transdb.header, opens, refl, whole)
 
 pub played_from : (held : Held) (status : Status) (old mid new : World) → Runs 0 (KeepsOpened (file_of 0 old)) old mid → IsStarted held old mid
     → IsPlayed (first_machine (side_of held.transdb.header) held.history) status mid new → IsPlayedFrom status old new
 played_from held status old mid new run started played = record {
   side = side_of held.transdb.header;
   entries = held.history;
-  opens = played_opens held (file_of 0 old) started.opens;
+  opens = played_opens held (file_of 0 old) started.opens started.whole;
   played = played_behind (first_machine (side_of held.transdb.header) held.history) status old mid new run played;
 }
 

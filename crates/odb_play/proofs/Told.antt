@@ -17,8 +17,8 @@ use Rattle.odb_device.specs.Console.{SaysOnly}
 use Rattle.odb_device.specs.Moments.{Runs}
 use Rattle.odb_device.proofs.Talking.{says_none}
 use Rattle.odb_device.proofs.Time.{begins}
-use Rattle.odb_model.specs.Told.{Tells}
-use Rattle.odb_model.proofs.Told.{Tells-nothing}
+use Rattle.odb_model.specs.Acknowledged.{Acknowledges}
+use Rattle.odb_model.proofs.Told.{Acknowledges-nothing}
 use Rattle.odb_system.specs.Durable.{IsDurable, HoldsThroughout, Risen}
 use Rattle.odb_play.specs.declared.player.Stop.TheVariants.{WriteFault as OutputFails, NoMemory as MemoryFails}
 use Rattle.odb_play.specs.Played.{Replies, LineEnds}
@@ -27,10 +27,10 @@ use Rattle.odb_model.specs.declared.reply.Reply.TheVariants.{Committed, Memory}
 use Rattle.odb_model.specs.declared.statement.Statement.{Statement}
 use Rattle.odb_model.specs.declared.statement.Statement.TheVariants.{Start, Commit, Select, Insert}
 use Rattle.odb_model.specs.Meaning.{is_built}
-use Rattle.odb_model.specs.Machine.{Machine, Starts, Commits, Runs as RunsStatement, Refuses, Step}
+use Rattle.odb_model.specs.Machine.{Machine, Starts, Commits, StatementStep, Refuses, Step}
 use Rattle.odb_model.specs.Script.{IsRequest, IsRefused, head_of}
 use Rattle.odb_model.specs.Play.{Answer, IsAnswer, text_of_answer}
-use Rattle.odb_model.specs.Transaction.{Exchange}
+use Rattle.odb_model.specs.Transaction.{Executed}
 use Rattle.odb_model.proofs.Fronts.{IsFrontOf}
 use Rattle.odb_play.specs.declared.player.TheConstants.{FRONT}
 use Rattle.odb_play.proofs.Fronts.{front_asks_nothing, front_refused}
@@ -83,8 +83,8 @@ some_left n bytes within none =
     let left : length (drop n bytes) ≡ length bytes - n = length-drop n bytes in
     omega arith
 
-nothing_tells : (reply : Reply) (front rest : List ℕ) (k : ℕ) → [] ≡ front ++ rest → Tells front k → reply ≡ Committed k
-nothing_tells reply [] rest k split t = absurd (Tells-nothing k t)
+nothing_tells : (reply : Reply) (front rest : List ℕ) (k : ℕ) → [] ≡ front ++ rest → Acknowledges front k → reply ≡ Committed k
+nothing_tells reply [] rest k split t = absurd (Acknowledges-nothing k t)
 nothing_tells reply (b ∷ front) rest k split t = cc
 
 module _ (line : List ℕ) (m : Machine) (head : Head) (reply : Reply) (before after : Held) (old mid : World) (stood : StandsFor before m) (replies : Replies line m head reply after old mid)
@@ -92,12 +92,12 @@ module _ (line : List ℕ) (m : Machine) (head : Head) (reply : Reply) (before a
   abbrev answer : Answer
   answer = replies.answer
 
-  module _ (text : List ℕ) (new : World) (printed : text ≡ reply_text head reply) (tells : (front rest : List ℕ) (k : ℕ) → text ≡ front ++ rest → Tells front k → reply ≡ Committed k)
+  module _ (text : List ℕ) (new : World) (printed : text ≡ reply_text head reply) (tells : (front rest : List ℕ) (k : ℕ) → text ≡ front ++ rest → Acknowledges front k → reply ≡ Committed k)
       (says : SaysOnly text mid new) where
     whole : text ≡ text_of_answer answer
     whole = printed ∙ sym (ap (λ h. reply_text h answer.reply) replies.head_is ∙ ap (λ r. reply_text head r) replies.reply_is)
 
-    told : (front rest : List ℕ) (k : ℕ) → text ≡ front ++ rest → Tells front k → answer.reply ≡ Committed k
+    told : (front rest : List ℕ) (k : ℕ) → text ≡ front ++ rest → Acknowledges front k → answer.reply ≡ Committed k
     told front rest k split t = replies.reply_is ∙ tells front rest k split t
 
     -- the answer was said

@@ -1,6 +1,6 @@
 pub mod Lines
 pub mod Numbers
-pub mod Kept
+pub mod LineFront
 pub mod Part
 pub mod Played
 pub mod Outside

@@ -15,11 +15,15 @@ use Rattle.odb_play.specs.Played.{IsPlayed}
 
 -- the bytes hold entries from the first on
 abbrev pub HoldsWhole : Opened → Type 0
-HoldsWhole what = (h : Header) × (entries : List Entry) × (what ≡ holding h entries) × (first_held h ≡ 1)
+HoldsWhole what =
+    (h : Header) × (entries : List Entry) × (what ≡ holding h entries) × (first_held h ≡ 1)
 
--- they hold entries from this number on, and it isn't 1: the earlier ones are nowhere, since no databank has a file yet
+-- they hold entries from this number on, and it isn't 1: the earlier ones are nowhere, since no
+-- databank has a file yet
 abbrev pub HoldsLate : ℕ → Opened → Type 0
-HoldsLate first what = (h : Header) × (entries : List Entry) × (what ≡ holding h entries) × (first ≡ first_held h) × (first ≢ 1)
+HoldsLate first what =
+    (h : Header) × (entries : List Entry) × (what ≡ holding h entries) × (first ≡ first_held h)
+    × (first ≢ 1)
 
 -- Which status may come of these bytes: a fault and want of memory of any
 abbrev pub IsOpeningOf : Status → Opened → Type 0
@@ -35,14 +39,20 @@ IsOpeningOf NoMemory what = Unit {0}
 IsOpeningOf Usage what = ⊥
 IsOpeningOf Exists what = ⊥
 
+-- the bytes hold these entries, from number 1 on, and records go on to this side
+abbrev pub HoldsFrom : Side → List Entry → Opened → Type 0
+HoldsFrom side entries what =
+    (h : Header) × (what ≡ holding h entries) × (side ≡ side_of h) × (first_held h ≡ 1)
+
 -- the script was played, from the machine of the entries that TRANSDB holds
 pub record IsPlayedFrom (status : Status) (old new : World) : Type 0 where
   pub side : Side
   pub entries : List Entry
-  pub opens : IfSome (file_of 0 old) (λ f. (h : Header) × (opened f.bytes ≡ holding h entries) × (side ≡ side_of h))
+  pub opens : IfSome (file_of 0 old) (λ f. HoldsFrom side entries (opened f.bytes))
   pub played : IsPlayed (first_machine side entries) status old new
 
--- the opening was refused: only TRANSDB may have changed, and it opens as before; nothing was taken or said
+-- the opening was refused: only TRANSDB may have changed, and it opens as before; nothing was taken
+-- or said
 abbrev pub IsRefused : World → World → Type 0
 IsRefused old new = Runs 0 (KeepsOpened (file_of 0 old)) old new
 

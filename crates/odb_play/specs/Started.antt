@@ -15,7 +15,8 @@ use Rattle.odb_system.specs.Durable.{IsDurable}
 pub record IsStarted (held : Held) (old new : World) : Type 0 where
   pub stands : StandsFor held (first_machine (side_of held.transdb.header) held.history)
   pub durable : IsDurable held (file_of 0 new)
-  pub opens : IfSome (file_of 0 old) (λ f. opened f.bytes ≡ holding held.transdb.header held.history)
+  pub opens : IfSome (file_of 0 old)
+      (λ f. opened f.bytes ≡ holding held.transdb.header held.history)
   pub whole : first_held held.transdb.header ≡ 1
 
 -- the status that a refused opening ends with; three of the errors it never has

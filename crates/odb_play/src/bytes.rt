@@ -1,3 +1,4 @@
+//! What stands behind a prefix of some bytes, and before a suffix.
 ghost use Rattle.std.specs.Prelude.{◌≡◌, ℕ, List, ◌++◌, IfSome, IfNone};
 
 /// What follows a prefix, where the bytes begin with it.

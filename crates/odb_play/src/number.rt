@@ -1,8 +1,10 @@
+//! The number at the front of a line.
 ghost use Rattle.std.specs.Prelude.{◌≡◌, ℕ, ◌^◌, ◌<◌, ◌≤◌, ◌↔◌, List, length, take, drop, slice_index, IsTrue, IfSome, IfNone};
 ghost use Rattle.std.specs.Str.Parse.{digits_value, AllDigits};
 ghost use Rattle.odb_play.specs.Numbers.{EndsNumber, StartsWithNumber, IsShort};
 
-/// The number of 1 to 9 digits without a leading zero that the bytes begin with, and what follows it.
+/// The number of 1 to 9 digits without a leading zero that the bytes begin with, and what follows
+/// it.
 ///
 /// None where they begin with no digit, with a leading zero, or with more than 9 digits.
 pub fn number_at_front(bytes: &[u8]) -> Option<(u32, &[u8])>

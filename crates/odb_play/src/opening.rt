@@ -1,4 +1,4 @@
-// Opening the files of a database.
+//! Opening the files of a database.
 ghost use Rattle.std.specs.Prelude.{◌≡◌, ℕ, Err, IfOk, IfErr, IfSome};
 ghost use Rattle.odb_device.specs.World.{file_of};
 ghost use Rattle.odb_device.specs.Calls.{FileCountRose};
@@ -21,11 +21,15 @@ const SYSDB: u32 = 2;
 ///
 /// Either way each image of TRANSDB opens as one from before, and nothing was taken or said.
 pub(crate) fn open_system<H: Host>(alloc: Global, host: &mut H) -> Result<System, Status>
-    ensures run { Runs 0 (KeepsOpened (file_of 0 (H.world host.old))) (H.world host.old) (H.world host.new) }
-    ensures started { IfOk result (λ system. IsStarted system (H.world host.old) (H.world host.new)) }
+    ensures run { Runs 0 (KeepsOpened (file_of 0 (H.world host.old)))
+        (H.world host.old) (H.world host.new) }
+    ensures started { IfOk result
+        (λ system. IsStarted system (H.world host.old) (H.world host.new)) }
     ensures refusal { IfErr result RefusesOpening }
-    ensures opened { IfSome (file_of 0 (H.world host.old)) (λ f. IfErr result (λ status. IsOpeningOf status (opened f.bytes))) }
-    ensures cause { (file : ℕ) → result ≡ Err (Status.FileFault file) → (file ≡ 0) × FileCountRose 0 (H.world host.old) (H.world host.new) }
+    ensures opened { IfSome (file_of 0 (H.world host.old))
+        (λ f. IfErr result (λ status. IsOpeningOf status (opened f.bytes))) }
+    ensures cause { (file : ℕ) → result ≡ Err (Status.FileFault file)
+        → (file ≡ 0) × FileCountRose 0 (H.world host.old) (H.world host.new) }
 {
     let (transdb, entries) = match Transdb::open_with_entries(alloc, host) {
         Ok(opened) => opened,
@@ -53,6 +57,9 @@ fn status_of(error: TransdbError) -> Status
         TransdbError::NoDatabase => Status::NoDatabase,
         TransdbError::Damaged { at } => Status::Damaged { file: 0, at },
         TransdbError::NoMemory => Status::NoMemory,
-        _ => Status::FileFault { file: 0 },
+        TransdbError::Fault
+        | TransdbError::FaultBefore
+        | TransdbError::Full { .. }
+        | TransdbError::InDoubt { .. } => Status::FileFault { file: 0 },
     }
 }

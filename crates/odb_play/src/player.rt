@@ -1,4 +1,4 @@
-// The player answers the lines of a script as their bytes come.
+//! The player answers the lines of a script as their bytes come.
 ghost use Rattle.std.specs.Prelude.{◌≡◌, ℕ, ◌+◌, ◌-◌, List, [], ◌∷◌, ◌++◌, take, length, position, ◌==◌, OnOk, OnErr, Err};
 ghost use Rattle.odb_device.specs.World.{file_of};
 ghost use Rattle.odb_device.specs.Console.{TakesNothing, SayCountRose};
@@ -9,7 +9,8 @@ ghost use Rattle.odb_model.specs.Script.{head_of, without_cr};
 ghost use Rattle.odb_transdb.specs.declared.header.Header.{Header};
 ghost use Rattle.odb_system.specs.Held.{StandsFor};
 ghost use Rattle.odb_system.specs.Durable.{IsDurable, HoldsThroughout};
-ghost use Rattle.odb_play.specs.Kept.{HasNoLf, shown_ended, shown_last};
+ghost use Rattle.odb_reply.specs.Unbroken.{HasNoLf};
+ghost use Rattle.odb_play.specs.LineFront.{read_of_ended, read_of_last};
 ghost use Rattle.odb_play.specs.Outside.{TouchesOnly};
 ghost use Rattle.odb_play.specs.Played.{IsAt, Replies, LineEnds, BytesEnd, FinishEnds};
 
@@ -17,12 +18,13 @@ use crate::bytes::before;
 use crate::event::event_of;
 use crate::front::LONGEST_LINE;
 use odb_device::{Host, say_all};
-use odb_model::{Event, Head, Reply, Status};
+use odb_model::{Event, Head, LF, Reply, Status};
 use odb_reply::print_reply;
 use odb_system::System;
 use std::alloc::{AllocError, Global};
 
-/// How many bytes of a line are read: one more than a line can have that asks for anything, so that a longer line is told from it.
+/// How many bytes of a line are read: one more than a line can have that asks for anything, so that
+/// a longer line is told from it.
 pub(crate) const FRONT: usize = LONGEST_LINE + 1;
 
 /// Why a script can't be played on.
@@ -52,26 +54,28 @@ impl Stop {
 #[derive(Debug, Drop)]
 pub(crate) struct Player {
     pub(crate) system: System,
-    pub(crate) kept: Vec<u8>,
+    pub(crate) front: Vec<u8>,
 }
 
-/// Puts the bytes behind those of a line that are kept, as far as there is room.
-fn keep(kept: &mut Vec<u8>, bytes: &[u8]) -> Result<(), AllocError>
-    ensures ok { OnOk result (kept.new.items ≡ kept.old.items ++ take (FRONT + 1 - length kept.old.items) bytes.now) }
-    ensures err { OnErr result (kept.new.items ≡ kept.old.items) }
+/// Puts the bytes behind the front of a line, as far as there is room.
+fn extend_front(front: &mut Vec<u8>, bytes: &[u8]) -> Result<(), AllocError>
+    ensures ok { OnOk result (front.new.items
+        ≡ front.old.items ++ take (FRONT + 1 - length front.old.items) bytes.now) }
+    ensures err { OnErr result (front.new.items ≡ front.old.items) }
 {
-    let room = (FRONT + 1).saturating_sub(kept.len());
-    kept.extend_from_slice(&bytes[..room.min(bytes.len())])
+    let room = (FRONT + 1).saturating_sub(front.len());
+    front.extend_from_slice(&bytes[..room.min(bytes.len())])
 }
 
-/// What is read of a line that an LF ended: without the CR before it, and no longer than a line can be that asks for a step.
-fn ended_line(kept: &[u8]) -> &[u8]
-    ensures { result.now ≡ shown_ended kept.now }
+/// What is read of a line that an LF ended: without the CR before it, and no longer than a line can
+/// be that asks for a step.
+fn ended_line(front: &[u8]) -> &[u8]
+    ensures { result.now ≡ read_of_ended front.now }
 {
-    if kept.len() > FRONT {
-        return &kept[..FRONT];
+    if front.len() > FRONT {
+        return &front[..FRONT];
     }
-    strip_cr(kept)
+    strip_cr(front)
 }
 
 /// The line without a CR at its end.
@@ -85,10 +89,10 @@ fn strip_cr(line: &[u8]) -> &[u8]
 }
 
 /// What is read of a last line that no LF ended.
-fn last_line(kept: &[u8]) -> &[u8]
-    ensures { result.now ≡ shown_last kept.now }
+fn last_line(front: &[u8]) -> &[u8]
+    ensures { result.now ≡ read_of_last front.now }
 {
-    &kept[..FRONT.min(kept.len())]
+    &front[..FRONT.min(front.len())]
 }
 
 /// Whom the answer to an event names.
@@ -104,8 +108,10 @@ fn head_of(event: &Event) -> Head
 /// The answer to a line: whom it names, and the reply.
 fn reply_to<H: Host>(system: &mut System, alloc: Global, host: &mut H, line: &[u8]) -> (Head, Reply)
     requires durable { IsDurable system.old (file_of 0 (H.world host.old)) }
-    ensures answer { (m : Machine) → StandsFor system.old m → Replies line.now m result.0 result.1 system.new (H.world host.old) (H.world host.new) }
-    ensures run { Runs 0 (HoldsThroughout system.old system.new) (H.world host.old) (H.world host.new) }
+    ensures answer { (m : Machine) → StandsFor system.old m
+        → Replies line.now m result.0 result.1 system.new (H.world host.old) (H.world host.new) }
+    ensures run { Runs 0 (HoldsThroughout system.old system.new)
+        (H.world host.old) (H.world host.new) }
     ensures durable { IsDurable system.new (file_of 0 (H.world host.new)) }
     ensures same { system.new.transdb.header ≡ system.old.transdb.header }
 {
@@ -124,12 +130,14 @@ fn answer<H: Host>(
 ) -> Result<(), Stop>
     requires durable { IsDurable system.old (file_of 0 (H.world host.old)) }
     ensures answer { (m : Machine) → StandsFor system.old m
-        → LineEnds system.old.transdb.header line.now m result system.new (H.world host.old) (H.world host.new) }
+        → LineEnds system.old.transdb.header line.now m result system.new
+        (H.world host.old) (H.world host.new) }
     ensures durable { IsDurable system.new (file_of 0 (H.world host.new)) }
     ensures same { system.new.transdb.header ≡ system.old.transdb.header }
     ensures only { TouchesOnly 0 (H.world host.old) (H.world host.new) }
     ensures input { TakesNothing (H.world host.old) (H.world host.new) }
-    ensures cause { result ≡ Err Stop.WriteFault → SayCountRose (H.world host.old) (H.world host.new) }
+    ensures cause { result ≡ Err Stop.WriteFault
+        → SayCountRose (H.world host.old) (H.world host.new) }
 {
     let (head, reply) = reply_to(system, alloc, host, line);
     let Ok(text) = print_reply(alloc, head, &reply) else {
@@ -145,19 +153,22 @@ impl Player {
     /// The line of which these bytes are the end: answers it.
     fn end_line<H: Host>(&mut self, alloc: Global, host: &mut H, part: &[u8]) -> Result<(), Stop>
         requires durable { IsDurable self.old.system (file_of 0 (H.world host.old)) }
-        ensures bytes { (h : Header) (m : Machine) (input : List ℕ) (answers : List Answer) → IsAt h m self.old.system self.old.kept.items input answers → HasNoLf part.now
-            → BytesEnd h m self.new.system self.new.kept.items (input ++ (part.now ++ 10 ∷ [])) answers result (H.world host.old) (H.world host.new) }
+        ensures bytes { (h : Header) (m : Machine) (input : List ℕ) (answers : List Answer)
+            → IsAt h m self.old.system self.old.front.items input answers → HasNoLf part.now
+            → BytesEnd h m self.new.system self.new.front.items (input ++ (part.now ++ LF ∷ []))
+            answers result (H.world host.old) (H.world host.new) }
         ensures durable { IsDurable self.new.system (file_of 0 (H.world host.new)) }
         ensures only { TouchesOnly 0 (H.world host.old) (H.world host.new) }
         ensures input { TakesNothing (H.world host.old) (H.world host.new) }
-        ensures cause { result ≡ Err Stop.WriteFault → SayCountRose (H.world host.old) (H.world host.new) }
+        ensures cause { result ≡ Err Stop.WriteFault
+            → SayCountRose (H.world host.old) (H.world host.new) }
     {
-        let Ok(()) = keep(&mut self.kept, part) else {
+        let Ok(()) = extend_front(&mut self.front, part) else {
             return Err(Stop::NoMemory);
         };
-        let line = ended_line(self.kept.as_slice());
+        let line = ended_line(self.front.as_slice());
         let ended = answer(&mut self.system, alloc, host, line);
-        self.kept.clear();
+        self.front.clear();
         ended
     }
 
@@ -169,19 +180,22 @@ impl Player {
         piece: &[u8],
     ) -> Result<(), Stop>
         requires durable { IsDurable self.old.system (file_of 0 (H.world host.old)) }
-        ensures bytes { (h : Header) (m : Machine) (input : List ℕ) (answers : List Answer) → IsAt h m self.old.system self.old.kept.items input answers
-            → BytesEnd h m self.new.system self.new.kept.items (input ++ piece.now) answers result (H.world host.old) (H.world host.new) }
+        ensures bytes { (h : Header) (m : Machine) (input : List ℕ) (answers : List Answer)
+            → IsAt h m self.old.system self.old.front.items input answers
+            → BytesEnd h m self.new.system self.new.front.items (input ++ piece.now) answers result
+            (H.world host.old) (H.world host.new) }
         ensures durable { IsDurable self.new.system (file_of 0 (H.world host.new)) }
         ensures only { TouchesOnly 0 (H.world host.old) (H.world host.new) }
         ensures input { TakesNothing (H.world host.old) (H.world host.new) }
-        ensures cause { result ≡ Err Stop.WriteFault → SayCountRose (H.world host.old) (H.world host.new) }
+        ensures cause { result ≡ Err Stop.WriteFault
+            → SayCountRose (H.world host.old) (H.world host.new) }
     {
         let mut rest = piece;
         while let Some(end) = end_of_line(rest) {
             self.end_line(alloc, host, &rest[..end])?;
             rest = &rest[end + 1..];
         }
-        let Ok(()) = keep(&mut self.kept, rest) else {
+        let Ok(()) = extend_front(&mut self.front, rest) else {
             return Err(Stop::NoMemory);
         };
         Ok(())
@@ -190,28 +204,30 @@ impl Player {
     /// Answers a last line that no LF ended, if there is one. Nothing may follow.
     pub(crate) fn finish<H: Host>(&mut self, alloc: Global, host: &mut H) -> Result<(), Stop>
         requires durable { IsDurable self.old.system (file_of 0 (H.world host.old)) }
-        ensures bytes { (h : Header) (m : Machine) (input : List ℕ) (answers : List Answer) → IsAt h m self.old.system self.old.kept.items input answers
+        ensures bytes { (h : Header) (m : Machine) (input : List ℕ) (answers : List Answer)
+            → IsAt h m self.old.system self.old.front.items input answers
             → FinishEnds h m input answers result (H.world host.old) (H.world host.new) }
         ensures durable { IsDurable self.new.system (file_of 0 (H.world host.new)) }
         ensures only { TouchesOnly 0 (H.world host.old) (H.world host.new) }
         ensures input { TakesNothing (H.world host.old) (H.world host.new) }
-        ensures cause { result ≡ Err Stop.WriteFault → SayCountRose (H.world host.old) (H.world host.new) }
+        ensures cause { result ≡ Err Stop.WriteFault
+            → SayCountRose (H.world host.old) (H.world host.new) }
     {
-        if self.kept.is_empty() {
+        if self.front.is_empty() {
             return Ok(());
         }
         answer(
             &mut self.system,
             alloc,
             host,
-            last_line(self.kept.as_slice()),
+            last_line(self.front.as_slice()),
         )
     }
 }
 
 /// Where the first LF stands.
 fn end_of_line(bytes: &[u8]) -> Option<usize>
-    ensures { result ≡ position (λ b. b == 10) bytes.now }
+    ensures { result ≡ position (λ b. b == LF) bytes.now }
 {
-    bytes.iter().position(|b| *b == 10)
+    bytes.iter().position(|b| *b == LF)
 }

@@ -1,3 +1,4 @@
+//! Why a line asks for nothing, and how it is answered then.
 ghost use Rattle.std.specs.Prelude.{◌≡◌};
 ghost use Rattle.odb_play.specs.Lines.{text_reply};
 
@@ -17,8 +18,8 @@ pub enum LineRefusal {
     /// The statement's text has more than 65,536 bytes.
     #[error("the statement of session {session} is too long")]
     Long { session: u32 },
-    /// The text of this session's line spells no statement; or memory ran out while it was read. Places count bytes from the text's
-    /// first, which stands behind the number and the space.
+    /// The text of this session's line spells no statement; or memory ran out while it was read.
+    /// Places count bytes from the text's first, which stands behind the number and the space.
     #[error("the text of session {session} spells no statement")]
     Text { session: u32, error: ParseError },
 }

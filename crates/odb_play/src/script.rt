@@ -1,3 +1,4 @@
+//! Playing a whole script: the call `play`.
 ghost use Rattle.std.specs.Prelude.{◌≡◌, ◌≢◌, ℕ, ◌<◌, ◌≤◌, List, [], length, take, IfOk, IfErr, IfSome, OnErr, Err};
 ghost use Rattle.odb_device.specs.Console.{Talks, SaysNothing, Takes, TakesNothing, EndsInput, SayCountRose, TakeCountRose};
 ghost use Rattle.odb_model.specs.Machine.{Machine};
@@ -27,22 +28,27 @@ const PIECE: usize = 65_536;
 /// How many bytes a script may have.
 const MOST_INPUT: u64 = 4_294_967_296;
 
-/// Opens TRANSDB, file 0, and plays the script that the host's input holds, from the entries found there on. It says the reply to
-/// each line before the next line is answered.
+/// Opens TRANSDB, file 0, and plays the script that the host's input holds, from the entries found
+/// there on. It says the reply to each line before the next line is answered.
 ///
-/// It refuses what [`Transdb::open_with_entries`] refuses, and with `NotHeld` entries of which the first isn't number 1: what came before them is
-/// nowhere, since no databank has a file yet. After a refusal nothing was taken or said. It takes the input in pieces of 64 KiB, and
-/// keeps of a line no more than a line can have that asks for a step.
+/// It refuses what [`Transdb::open_with_entries`] refuses, and with `NotHeld` entries of which the
+/// first isn't number 1: what came before them is nowhere, since no databank has a file yet. After
+/// a refusal nothing was taken or said. It takes the input in pieces of 64 KiB, and keeps of a line
+/// no more than a line can have that asks for a step.
 ///
-/// At each moment of it a crash leaves a TRANSDB that opens to the first entries of the history with the one in doubt, among them each
-/// commit that a whole line said by then tells of. This is promised of a file that is told and that opens so by each of its images at
-/// the call.
+/// At each moment of it a crash leaves a TRANSDB that opens to the first entries of the history
+/// with the one in doubt, among them each commit that a whole line said by then tells of. This is
+/// promised of a file that is told and that opens so by each of its images at the call.
 pub fn play<H: Host>(alloc: Global, host: &mut H) -> Status
     ensures played { PlayOutcome result (H.world host.old) (H.world host.new) }
-    ensures opened { IfSome (file_of 0 (H.world host.old)) (λ f. IsOpeningOf result (opened f.bytes)) }
-    ensures file_fault { (file : ℕ) → result ≡ Status.FileFault file → (file ≡ 0) × FileCountRose 0 (H.world host.old) (H.world host.new) }
-    ensures read_fault { result ≡ Status.ReadFault → TakeCountRose (H.world host.old) (H.world host.new) }
-    ensures write_fault { result ≡ Status.WriteFault → SayCountRose (H.world host.old) (H.world host.new) }
+    ensures opened { IfSome (file_of 0 (H.world host.old))
+        (λ f. IsOpeningOf result (opened f.bytes)) }
+    ensures file_fault { (file : ℕ) → result ≡ Status.FileFault file
+        → (file ≡ 0) × FileCountRose 0 (H.world host.old) (H.world host.new) }
+    ensures read_fault { result ≡ Status.ReadFault
+        → TakeCountRose (H.world host.old) (H.world host.new) }
+    ensures write_fault { result ≡ Status.WriteFault
+        → SayCountRose (H.world host.old) (H.world host.new) }
 {
     match open_player(alloc, host) {
         Ok((mut player, mut piece)) => play_on(alloc, host, &mut player, piece.as_mut_slice()),
@@ -50,33 +56,41 @@ pub fn play<H: Host>(alloc: Global, host: &mut H) -> Status
     }
 }
 
-/// A player that has answered nothing, with the entries that TRANSDB holds as its history, and room for a piece of the input.
+/// A player that has answered nothing, with the entries that TRANSDB holds as its history, and room
+/// for a piece of the input.
 fn open_player<H: Host>(alloc: Global, host: &mut H) -> Result<(Player, Vec<u8>), Status>
-    ensures run { Runs 0 (KeepsOpened (file_of 0 (H.world host.old))) (H.world host.old) (H.world host.new) }
-    ensures started { IfOk result (λ r. IsStarted r.0.system (H.world host.old) (H.world host.new)) }
-    ensures kept { IfOk result (λ r. r.0.kept.items ≡ []) }
+    ensures run { Runs 0 (KeepsOpened (file_of 0 (H.world host.old)))
+        (H.world host.old) (H.world host.new) }
+    ensures started { IfOk result
+        (λ r. IsStarted r.0.system (H.world host.old) (H.world host.new)) }
+    ensures front { IfOk result (λ r. r.0.front.items ≡ []) }
     ensures room { IfOk result (λ r. 0 < length r.1.items) }
     ensures refusal { IfErr result RefusesOpening }
-    ensures opened { IfSome (file_of 0 (H.world host.old)) (λ f. IfErr result (λ status. IsOpeningOf status (opened f.bytes))) }
-    ensures cause { (file : ℕ) → result ≡ Err (Status.FileFault file) → (file ≡ 0) × FileCountRose 0 (H.world host.old) (H.world host.new) }
+    ensures opened { IfSome (file_of 0 (H.world host.old))
+        (λ f. IfErr result (λ status. IsOpeningOf status (opened f.bytes))) }
+    ensures cause { (file : ℕ) → result ≡ Err (Status.FileFault file)
+        → (file ≡ 0) × FileCountRose 0 (H.world host.old) (H.world host.new) }
 {
     let system = open_system(alloc, host)?;
-    let Ok(kept) = Vec::with_capacity(alloc, FRONT + 1) else {
+    let Ok(front) = Vec::with_capacity(alloc, FRONT + 1) else {
         return Err(Status::NoMemory);
     };
     let Ok(piece) = vec![in alloc; 0u8; PIECE] else {
         return Err(Status::NoMemory);
     };
-    Ok((Player { system, kept }, piece))
+    Ok((Player { system, front }, piece))
 }
 
 /// Plays the whole script, in pieces that fit the buffer.
 fn play_on<H: Host>(alloc: Global, host: &mut H, player: &mut Player, piece: &mut [u8]) -> Status
     requires room { 0 < length piece.old }
     requires durable { IsDurable player.old.system (file_of 0 (H.world host.old)) }
-    ensures played { (m : Machine) → StandsFor player.old.system m → player.old.kept.items ≡ [] → IsPlayed m result (H.world host.old) (H.world host.new) }
-    ensures read_fault { result ≡ Status.ReadFault → TakeCountRose (H.world host.old) (H.world host.new) }
-    ensures write_fault { result ≡ Status.WriteFault → SayCountRose (H.world host.old) (H.world host.new) }
+    ensures played { (m : Machine) → StandsFor player.old.system m → player.old.front.items ≡ []
+        → IsPlayed m result (H.world host.old) (H.world host.new) }
+    ensures read_fault { result ≡ Status.ReadFault
+        → TakeCountRose (H.world host.old) (H.world host.new) }
+    ensures write_fault { result ≡ Status.WriteFault
+        → SayCountRose (H.world host.old) (H.world host.new) }
 {
     let mut taken = 0u64;
     while taken < MOST_INPUT {
@@ -108,7 +122,8 @@ fn take_some<H: Host>(host: &mut H, piece: &mut [u8], room: usize) -> Result<usi
     ensures talks { Talks (H.world host.old) (H.world host.new) }
     ensures silent { SaysNothing (H.world host.old) (H.world host.new) }
     ensures bound { IfOk result (λ n. n ≤ room) }
-    ensures taken { IfOk result (λ n. Takes (take n piece.new) (H.world host.old) (H.world host.new)) }
+    ensures taken { IfOk result
+        (λ n. Takes (take n piece.new) (H.world host.old) (H.world host.new)) }
     ensures ended { IfOk result (λ n. EndsInput n (H.world host.old) (H.world host.new)) }
     ensures failed { OnErr result (TakesNothing (H.world host.old) (H.world host.new)) }
     ensures cause { OnErr result (TakeCountRose (H.world host.old) (H.world host.new)) }
@@ -119,12 +134,14 @@ fn take_some<H: Host>(host: &mut H, piece: &mut [u8], room: usize) -> Result<usi
 /// The input has ended: answers a last line, if there is one, and says how the script ended.
 fn end<H: Host>(alloc: Global, host: &mut H, player: &mut Player) -> Status
     requires durable { IsDurable player.old.system (file_of 0 (H.world host.old)) }
-    ensures finished { (h : Header) (m : Machine) (input : List ℕ) (answers : List Answer) → IsAt h m player.old.system player.old.kept.items input answers
+    ensures finished { (h : Header) (m : Machine) (input : List ℕ) (answers : List Answer)
+        → IsAt h m player.old.system player.old.front.items input answers
         → EndsWith h m input answers result (H.world host.old) (H.world host.new) }
     ensures only { TouchesOnly 0 (H.world host.old) (H.world host.new) }
     ensures input { TakesNothing (H.world host.old) (H.world host.new) }
     ensures read_fault { result ≢ Status.ReadFault }
-    ensures write_fault { result ≡ Status.WriteFault → SayCountRose (H.world host.old) (H.world host.new) }
+    ensures write_fault { result ≡ Status.WriteFault
+        → SayCountRose (H.world host.old) (H.world host.new) }
 {
     match player.finish(alloc, host) {
         Ok(()) => Status::Done,

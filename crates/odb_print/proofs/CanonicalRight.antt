@@ -13,7 +13,7 @@ use Rattle.odb_model.specs.declared.statement.Assignment.{Assignment}
 use Rattle.odb_model.specs.declared.statement.ColumnText.{ColumnText}
 use Rattle.odb_model.specs.declared.statement.Statement.{Statement}
 use Rattle.odb_model.specs.Lexeme.{Lexeme, Word, Name, Number, Quoted, Symbol, IsFree}
-use Rattle.odb_model.specs.Grammar.{IsListed, IsNamed, IsLiteral, IsOperand, AreTerms, IsExpression, IsTuple, IsAssignment, IsKind, IsMust, IsColumn, IsTest, IsPredicate, IsBoth, IsNo, IsFilter, IsWhat, IsStatement, Spells}
+use Rattle.odb_model.specs.Grammar.{IsListed, IsNamed, IsLiteral, IsOperand, AreTerms, IsExpression, IsTuple, IsAssignment, IsKind, IsMust, IsColumn, IsTest, IsPredicate, IsBooleanTerm, IsBooleanFactor, IsFilter, IsWhat, IsStatement, Spells}
 
 abbrev pub IsRight : Lexeme → Type 0
 IsRight (Word word) = Unit {0}
@@ -96,17 +96,17 @@ right_test (IsTest.not_null free) = (free, (tt, (tt, (tt, tt))))
 
 mutual
   right_predicate : {room : ℕ} {ts : List Lexeme} {a : Predicate} → IsPredicate room ts a → AllRight ts
-  right_predicate (IsPredicate.both h) = right_in_both h
+  right_predicate (IsPredicate.term h) = right_in_both h
   right_predicate (IsPredicate.or {ts = ts} {us = us} h i) = right_both ts (Word k.Or ∷ us) (right_predicate h) (tt, right_in_both i)
 
-  right_in_both : {room : ℕ} {ts : List Lexeme} {a : Predicate} → IsBoth room ts a → AllRight ts
-  right_in_both (IsBoth.no h) = right_no h
-  right_in_both (IsBoth.and {ts = ts} {us = us} h i) = right_both ts (Word k.And ∷ us) (right_in_both h) (tt, right_no i)
+  right_in_both : {room : ℕ} {ts : List Lexeme} {a : Predicate} → IsBooleanTerm room ts a → AllRight ts
+  right_in_both (IsBooleanTerm.factor h) = right_no h
+  right_in_both (IsBooleanTerm.and {ts = ts} {us = us} h i) = right_both ts (Word k.And ∷ us) (right_in_both h) (tt, right_no i)
 
-  right_no : {room : ℕ} {ts : List Lexeme} {a : Predicate} → IsNo room ts a → AllRight ts
-  right_no (IsNo.not h) = (tt, right_no h)
-  right_no (IsNo.parens {ts = ts} h) = (tt, right_both ts _ (right_predicate h) (tt, tt))
-  right_no (IsNo.test h) = right_test h
+  right_no : {room : ℕ} {ts : List Lexeme} {a : Predicate} → IsBooleanFactor room ts a → AllRight ts
+  right_no (IsBooleanFactor.not h) = (tt, right_no h)
+  right_no (IsBooleanFactor.parens {ts = ts} h) = (tt, right_both ts _ (right_predicate h) (tt, tt))
+  right_no (IsBooleanFactor.test h) = right_test h
 
 right_filter : {ts : List Lexeme} {filter : Option Predicate} → IsFilter ts filter → AllRight ts
 right_filter IsFilter.all = tt

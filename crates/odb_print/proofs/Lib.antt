@@ -5,7 +5,6 @@ pub mod CanonicalParts
 pub mod CanonicalPredicates
 pub mod CanonicalRight
 mod Joins
-mod Quotes
 pub mod Tokens
 pub mod TokensCanonical
 pub mod TokensOne

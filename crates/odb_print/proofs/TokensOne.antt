@@ -11,11 +11,11 @@ use Rattle.std.specs.Int.{IsInRange}
 use Rattle.std.specs.List.{prefix_len, list_all, take_while}
 use Rattle.std.specs.Str.Lossy.{utf8_valid_len}
 use Rattle.std.specs.Str.Parse.{AllDigits, digits_value}
-use Rattle.odb_values.specs.Text.{IsText}
+use Rattle.odb_values.specs.Text.{IsText, is_plain}
 use Rattle.odb_lex.specs.declared.error.LexError.{LexError}
 use Rattle.odb_lex.specs.declared.error.LexError.TheVariants.{BadCharacter, OpenText}
 use Rattle.odb_lex.specs.declared.token.TokenKind.TheVariants as kind
-use Rattle.odb_lex.specs.Bytes.{is_blank, is_name_byte, is_plain}
+use Rattle.odb_lex.specs.Bytes.{is_blank, is_name_byte}
 use Rattle.odb_lex.specs.Quoted.{doubled, value_from, right_len, text_end}
 use Rattle.odb_lex.specs.Token.{IsName, capitals}
 use Rattle.odb_lex.specs.Next.{token, name_at, number_at, quoted_at, front}

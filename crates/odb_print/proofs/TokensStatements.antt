@@ -17,7 +17,7 @@ use Rattle.odb_model.specs.declared.statement.ColumnText.{ColumnText}
 use Rattle.odb_model.specs.declared.statement.Statement.{Statement}
 use Rattle.odb_model.specs.Lexeme.{Lexeme, Word, Name, Symbol, word_text, sign_text}
 use Rattle.odb_model.specs.Grammar as g
-use Rattle.odb_model.specs.Grammar.{IsNamed, IsLiteral, IsOperand, AreTerms, IsExpression, IsTuple, IsAssignment, IsKind, IsMust, IsColumn, IsCompare, IsTest, IsPredicate, IsBoth, IsNo, IsFilter, IsWhat, IsStatement, Spells}
+use Rattle.odb_model.specs.Grammar.{IsNamed, IsLiteral, IsOperand, AreTerms, IsExpression, IsTuple, IsAssignment, IsKind, IsMust, IsColumn, IsCompare, IsTest, IsPredicate, IsBooleanTerm, IsBooleanFactor, IsFilter, IsWhat, IsStatement, Spells}
 use Rattle.odb_model.specs.Canonical.{joined, names_text, value_text, tuple_text, operand_text, term_text, expression_text, assignment_text, kind_text, column_text, what_text, compare_text, Shown, shown_step, within, filter_text, statement_text}
 use Rattle.odb_print.proofs.Lexemes.{joined_lexemes, names_lexemes, value_lexemes, tuple_lexemes, operand_lexemes, term_lexemes, expression_lexemes, assignment_lexemes, kind_lexemes, column_lexemes, what_lexemes, compare_sign, Spelled, bound, spelled_step, spelled_predicate, filter_lexemes, statement_lexemes}
 use Rattle.odb_print.proofs.CanonicalFolds.{fold_test, fold_null, fold_not, fold_and, fold_or}
@@ -155,17 +155,17 @@ or_shown a b is also =
 
 mutual
   any_shown : (room : ℕ) (ts : List Lexeme) (a : Predicate) → IsPredicate room ts a → PredicateShown a
-  any_shown _ _ _ (g.both d) = both_shown _ _ _ d
+  any_shown _ _ _ (g.term d) = both_shown _ _ _ d
   any_shown _ _ _ (g.or d e) = or_shown _ _ (any_shown _ _ _ d) (both_shown _ _ _ e)
 
-  both_shown : (room : ℕ) (ts : List Lexeme) (a : Predicate) → IsBoth room ts a → PredicateShown a
-  both_shown _ _ _ (g.no d) = no_shown _ _ _ d
+  both_shown : (room : ℕ) (ts : List Lexeme) (a : Predicate) → IsBooleanTerm room ts a → PredicateShown a
+  both_shown _ _ _ (g.factor d) = no_shown _ _ _ d
   both_shown _ _ _ (g.and d e) = and_shown _ _ (both_shown _ _ _ d) (no_shown _ _ _ e)
 
-  no_shown : (room : ℕ) (ts : List Lexeme) (a : Predicate) → IsNo room ts a → PredicateShown a
+  no_shown : (room : ℕ) (ts : List Lexeme) (a : Predicate) → IsBooleanFactor room ts a → PredicateShown a
   no_shown _ _ _ (g.not d) = not_shown _ (no_shown _ _ _ d)
   no_shown _ _ _ (g.parens d) = any_shown _ _ _ d
-  no_shown _ _ _ (g.IsNo.test d) = test_shown _ _ d
+  no_shown _ _ _ (g.IsBooleanFactor.test d) = test_shown _ _ d
 
 filter_tail : (ts : List Lexeme) (filter : Option Predicate) → IsFilter ts filter → Tail false (filter_text filter) (filter_lexemes filter)
 unfolding word_text

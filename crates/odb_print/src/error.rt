@@ -1,3 +1,4 @@
+//! Why a statement is not printed.
 ghost use Rattle.std.specs.Prelude.{◌≡◌};
 ghost use Rattle.odb_print.specs.declared.error.PrintError.TheVariants.{NoMemory};
 

@@ -4,7 +4,9 @@ ghost use Rattle.odb_model.specs.declared.statement.Statement.{Statement};
 ghost use Rattle.odb_model.specs.Answer.{IsStatementText};
 ghost use Rattle.odb_model.specs.Canonical.{statement_text};
 
-/// What some text spells, the statement's printed text spells too: reading it gives the statement back.
+/// What some text spells, the statement's printed text spells too: reading it gives the statement
+/// back.
 pub fn prints_back()
-    ensures { (text : List ℕ) (st : Statement) → IsStatementText text st → IsStatementText (statement_text st) st }
+    ensures { (text : List ℕ) (st : Statement) → IsStatementText text st →
+        IsStatementText (statement_text st) st }
 {}

@@ -16,6 +16,3 @@ mod values;
 pub use error::PrintError;
 pub use laws::prints_back;
 pub use statements::print_statement;
-
-#[cfg(test)]
-mod tests;

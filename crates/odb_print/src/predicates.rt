@@ -1,7 +1,8 @@
 //! The text of a predicate, with the parentheses that it needs.
-ghost use Rattle.std.specs.Prelude.{◌≡◌, ◌++◌, codes, if◌then◌else◌, flat_map, reverse, string_bytes, IfOk, OnOk};
-ghost use Rattle.odb_model.specs.Canonical.{operand_text, compare_text, predicate_text, within};
-ghost use Rattle.odb_print.specs.Shown.{shown_of};
+ghost use Rattle.std.specs.Prelude.{◌≡◌};
+ghost use Rattle.odb_lex.specs.Written.{Appends};
+ghost use Rattle.odb_model.specs.Canonical.{compare_text, predicate_text, within};
+ghost use Rattle.odb_print.specs.Shown.{Opens, infix_text, null_text, shown_of, test_text, text_behind};
 
 use crate::put::Put;
 use odb_model::{Compare, Operand, Predicate};
@@ -19,15 +20,16 @@ const OTHER: u32 = 3;
 
 /// The predicate, without parentheses round the whole.
 ///
-/// What the reader makes of a long line is deep on its left alone, where this goes by a loop: `behind`
-/// has what stands behind the left parts, the innermost last. It calls itself for right parts and NOTs.
+/// What the reader makes of a long line is deep on its left alone, where this goes by a loop:
+/// `behind` has what stands behind the left parts, the innermost last. It calls itself for right
+/// parts and NOTs.
 #[cycle(predicate)]
 pub fn put_predicate(
     alloc: Global,
     out: &mut String,
     predicate: &Predicate,
 ) -> Result<(), AllocError>
-    ensures { OnOk result (string_bytes out.new ≡ string_bytes out.old ++ predicate_text predicate.now) }
+    ensures { Appends result out.old out.new (predicate_text predicate.now) }
 {
     let mut behind = Vec::new(alloc);
     let mut part = predicate;
@@ -66,15 +68,15 @@ fn put_within(
     least: u32,
     part: &Predicate,
 ) -> Result<(), AllocError>
-    ensures { OnOk result (string_bytes out.new ≡ string_bytes out.old ++ within least (shown_of part.now)) }
+    ensures { Appends result out.old out.new (within least (shown_of part.now)) }
 {
     let behind = put_open(alloc, out, least, part)?;
     put_predicate(alloc, out, part)?;
     out.push_str(behind.as_str())
 }
 
-/// Writes what stands before a left part, and gives what stands behind it: `)` where `(` was written, the
-/// word and the right part. A side has to bind as tightly as its number at least.
+/// Writes what stands before a left part, and gives what stands behind it: `)` where `(` was
+/// written, the word and the right part. A side has to bind as tightly as its number at least.
 #[cycle(predicate)]
 fn put_left(
     alloc: Global,
@@ -85,8 +87,8 @@ fn put_left(
     right_least: u32,
     right: &Predicate,
 ) -> Result<String, AllocError>
-    ensures { IfOk result (λ behind. string_bytes out.new ++ predicate_text left.now ++ string_bytes behind
-        ≡ string_bytes out.old ++ (within least (shown_of left.now) ++ word.now ++ within right_least (shown_of right.now))) }
+    ensures { Opens result out.old out.new left.now
+        (infix_text least left.now word.now right_least right.now) }
 {
     let mut behind = put_open(alloc, out, least, left)?;
     behind.push_str(word)?;
@@ -94,15 +96,15 @@ fn put_left(
     Ok(behind)
 }
 
-/// Writes `(` where the part binds less tightly than it has to, and gives what then stands behind it.
+/// Writes `(` where the part binds less tightly than it has to, and gives what then stands behind
+/// it.
 fn put_open(
     alloc: Global,
     out: &mut String,
     least: u32,
     part: &Predicate,
 ) -> Result<String, AllocError>
-    ensures { IfOk result (λ behind. string_bytes out.new ++ predicate_text part.now ++ string_bytes behind
-        ≡ string_bytes out.old ++ within least (shown_of part.now)) }
+    ensures { Opens result out.old out.new part.now (within least (shown_of part.now)) }
 {
     if least <= binding(part) {
         return Ok(String::new(alloc));
@@ -113,7 +115,7 @@ fn put_open(
 
 /// The texts that stand behind left parts, the last first.
 fn put_behind(out: &mut String, mut behind: Vec<String>) -> Result<(), AllocError>
-    ensures { OnOk result (string_bytes out.new ≡ string_bytes out.old ++ flat_map (λ text. string_bytes text) (reverse behind.items)) }
+    ensures { Appends result out.old out.new (text_behind behind.items) }
 {
     while let Some(text) = behind.pop() {
         out.push_str(text.as_str())?;
@@ -128,7 +130,7 @@ fn binding(predicate: &Predicate) -> u32
     match predicate {
         Predicate::Or(..) => OR,
         Predicate::And(..) => AND,
-        _ => OTHER,
+        Predicate::Test { .. } | Predicate::Null { .. } | Predicate::Not(_) => OTHER,
     }
 }
 
@@ -138,8 +140,7 @@ fn put_test(
     left: &Operand,
     right: &Operand,
 ) -> Result<(), AllocError>
-    ensures { OnOk result (string_bytes out.new
-        ≡ string_bytes out.old ++ (operand_text left.now ++ compare_text op ++ operand_text right.now)) }
+    ensures { Appends result out.old out.new (test_text op left.now right.now) }
 {
     left.put(out)?;
     out.push_str(sign_of(op))?;
@@ -147,8 +148,7 @@ fn put_test(
 }
 
 fn put_null(out: &mut String, column: &Text, negated: bool) -> Result<(), AllocError>
-    ensures { OnOk result (string_bytes out.new
-        ≡ string_bytes out.old ++ (column.now ++ (if negated then codes " IS NOT NULL" else codes " IS NULL"))) }
+    ensures { Appends result out.old out.new (null_text column.now negated) }
 {
     column.put(out)?;
     out.push_str(if negated { " IS NOT NULL" } else { " IS NULL" })

@@ -1,5 +1,6 @@
 //! What has a text, and lists of it.
-ghost use Rattle.std.specs.Prelude.{◌≡◌, ℕ, List, ◌++◌, flat_map, string_bytes, OnOk};
+ghost use Rattle.std.specs.Prelude.{ℕ, List, flat_map};
+ghost use Rattle.odb_lex.specs.Written.{Appends};
 ghost use Rattle.odb_model.specs.Canonical.{joined};
 
 use std::alloc::AllocError;
@@ -11,12 +12,12 @@ pub trait Put {
 
     /// Writes its text behind what is written. The error is want of memory.
     fn put(&self, out: &mut String) -> Result<(), AllocError>
-        ensures { OnOk result (string_bytes out.new ≡ string_bytes out.old ++ text self.now) };
+        ensures { Appends result out.old out.new (text self.now) };
 }
 
 /// The texts of some items, with a comma and a space between two.
 pub fn put_joined<T: Put>(out: &mut String, items: &[T]) -> Result<(), AllocError>
-    ensures { OnOk result (string_bytes out.new ≡ string_bytes out.old ++ joined T.text items.now) }
+    ensures { Appends result out.old out.new (joined T.text items.now) }
 {
     for (at, item) in items.iter().enumerate() {
         if at > 0 {
@@ -29,7 +30,7 @@ pub fn put_joined<T: Put>(out: &mut String, items: &[T]) -> Result<(), AllocErro
 
 /// The texts of some items, one behind another.
 pub fn put_all<T: Put>(out: &mut String, items: &[T]) -> Result<(), AllocError>
-    ensures { OnOk result (string_bytes out.new ≡ string_bytes out.old ++ flat_map T.text items.now) }
+    ensures { Appends result out.old out.new (flat_map T.text items.now) }
 {
     for item in items {
         item.put(out)?;

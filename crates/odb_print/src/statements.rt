@@ -1,5 +1,7 @@
-ghost use Rattle.std.specs.Prelude.{◌≡◌, ◌++◌, codes, string_bytes, IfOk, OnOk};
-ghost use Rattle.odb_model.specs.Canonical.{joined, names_text, tuple_text, assignment_text, column_text, what_text, filter_text, statement_text};
+//! The text of a statement.
+ghost use Rattle.std.specs.Prelude.{◌≡◌, ◌++◌, IfOk};
+ghost use Rattle.odb_lex.specs.Written.{Appends};
+ghost use Rattle.odb_model.specs.Canonical.{what_text, filter_text, statement_text};
 
 use crate::PrintError;
 use crate::predicates::put_predicate;
@@ -10,9 +12,9 @@ use std::alloc::{AllocError, Global};
 
 /// The canonical text of a statement, in one buffer that grows to its length.
 ///
-/// It has one space between two tokens, but none after `(`, before `)`, before `,`, after the `-` of a
-/// literal, or between COUNT, SUM or VARCHAR and `(`; parentheses only where a predicate needs them; and
-/// no `;`. The statement is only read. The error is want of memory alone.
+/// It has one space between two tokens, but none after `(`, before `)`, before `,`, after the `-`
+/// of a literal, or between COUNT, SUM or VARCHAR and `(`; parentheses only where a predicate needs
+/// them; and no `;`. The statement is only read. The error is want of memory alone.
 pub fn print_statement(alloc: Global, statement: &Statement) -> Result<Bytes, PrintError>
     ensures text { IfOk result (λ bytes. bytes ≡ statement_text statement.now) }
 {
@@ -22,7 +24,7 @@ pub fn print_statement(alloc: Global, statement: &Statement) -> Result<Bytes, Pr
 }
 
 fn put_statement(alloc: Global, out: &mut String, statement: &Statement) -> Result<(), AllocError>
-    ensures { OnOk result (string_bytes out.new ≡ string_bytes out.old ++ statement_text statement.now) }
+    ensures { Appends result out.old out.new (statement_text statement.now) }
 {
     match statement {
         Statement::Start => out.push_str("START"),
@@ -67,8 +69,8 @@ fn put_select(
     table: &Text,
     filter: &Option<Predicate>,
 ) -> Result<(), AllocError>
-    ensures { OnOk result (string_bytes out.new ≡ string_bytes out.old
-        ++ (codes "SELECT " ++ what_text what.now ++ codes " FROM " ++ table.now ++ filter_text filter.now)) }
+    ensures { Appends result out.old out.new
+        (statement_text (Statement.Select what.now table.now filter.now)) }
 {
     out.push_str("SELECT ")?;
     put_what(out, what)?;
@@ -77,7 +79,7 @@ fn put_select(
 }
 
 fn put_what(out: &mut String, what: &What) -> Result<(), AllocError>
-    ensures { OnOk result (string_bytes out.new ≡ string_bytes out.old ++ what_text what.now) }
+    ensures { Appends result out.old out.new (what_text what.now) }
 {
     match what {
         What::All => out.push_str("*"),
@@ -88,8 +90,8 @@ fn put_what(out: &mut String, what: &What) -> Result<(), AllocError>
 }
 
 fn put_insert(out: &mut String, table: &Text, tuples: &ValueRows) -> Result<(), AllocError>
-    ensures { OnOk result (string_bytes out.new ≡ string_bytes out.old
-        ++ (codes "INSERT INTO " ++ table.now ++ codes " VALUES " ++ joined tuple_text tuples.now)) }
+    ensures { Appends result out.old out.new
+        (statement_text (Statement.Insert table.now tuples.now)) }
 {
     put_one(out, "INSERT INTO ", table, " VALUES ")?;
     put_joined(out, tuples.as_slice())
@@ -102,8 +104,8 @@ fn put_update(
     sets: &Assignments,
     filter: &Option<Predicate>,
 ) -> Result<(), AllocError>
-    ensures { OnOk result (string_bytes out.new ≡ string_bytes out.old
-        ++ (codes "UPDATE " ++ table.now ++ codes " SET " ++ joined assignment_text sets.now ++ filter_text filter.now)) }
+    ensures { Appends result out.old out.new
+        (statement_text (Statement.Update table.now sets.now filter.now)) }
 {
     put_one(out, "UPDATE ", table, " SET ")?;
     put_joined(out, sets.as_slice())?;
@@ -116,8 +118,8 @@ fn put_delete(
     table: &Text,
     filter: &Option<Predicate>,
 ) -> Result<(), AllocError>
-    ensures { OnOk result (string_bytes out.new ≡ string_bytes out.old
-        ++ (codes "DELETE FROM " ++ table.now ++ filter_text filter.now)) }
+    ensures { Appends result out.old out.new
+        (statement_text (Statement.Delete table.now filter.now)) }
 {
     put_last(out, "DELETE FROM ", table)?;
     put_filter(alloc, out, filter)
@@ -130,9 +132,8 @@ fn put_table(
     key: &Names,
     bank: &Text,
 ) -> Result<(), AllocError>
-    ensures { OnOk result (string_bytes out.new ≡ string_bytes out.old
-        ++ (codes "CREATE TABLE " ++ name.now ++ codes " (" ++ joined column_text columns.now
-        ++ codes ", PRIMARY KEY (" ++ names_text key.now ++ codes ")) IN " ++ bank.now)) }
+    ensures { Appends result out.old out.new
+        (statement_text (Statement.CreateTable name.now columns.now key.now bank.now)) }
 {
     put_one(out, "CREATE TABLE ", name, " (")?;
     put_joined(out, columns.as_slice())?;
@@ -143,7 +144,7 @@ fn put_table(
 
 /// What a WHERE says, if there is one.
 fn put_filter(alloc: Global, out: &mut String, filter: &Option<Predicate>) -> Result<(), AllocError>
-    ensures { OnOk result (string_bytes out.new ≡ string_bytes out.old ++ filter_text filter.now) }
+    ensures { Appends result out.old out.new (filter_text filter.now) }
 {
     match filter {
         None => Ok(()),
@@ -156,7 +157,7 @@ fn put_filter(alloc: Global, out: &mut String, filter: &Option<Predicate>) -> Re
 
 /// Words and a name.
 fn put_last(out: &mut String, before: &str, name: &Text) -> Result<(), AllocError>
-    ensures { OnOk result (string_bytes out.new ≡ string_bytes out.old ++ (before.now ++ name.now)) }
+    ensures { Appends result out.old out.new (before.now ++ name.now) }
 {
     out.push_str(before)?;
     name.put(out)
@@ -164,7 +165,7 @@ fn put_last(out: &mut String, before: &str, name: &Text) -> Result<(), AllocErro
 
 /// A name between words.
 fn put_one(out: &mut String, before: &str, name: &Text, after: &str) -> Result<(), AllocError>
-    ensures { OnOk result (string_bytes out.new ≡ string_bytes out.old ++ (before.now ++ name.now ++ after.now)) }
+    ensures { Appends result out.old out.new (before.now ++ name.now ++ after.now) }
 {
     put_last(out, before, name)?;
     out.push_str(after)
@@ -178,8 +179,8 @@ fn pair(
     between: &str,
     second: &Text,
 ) -> Result<(), AllocError>
-    ensures { OnOk result (string_bytes out.new ≡ string_bytes out.old
-        ++ (before.now ++ first.now ++ between.now ++ second.now)) }
+    ensures { Appends result out.old out.new
+        (before.now ++ first.now ++ between.now ++ second.now) }
 {
     put_last(out, before, first)?;
     put_last(out, between, second)

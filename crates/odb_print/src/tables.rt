@@ -1,5 +1,5 @@
 //! The texts of columns, as a CREATE TABLE has them.
-ghost use Rattle.std.specs.Prelude.{◌≡◌, ◌++◌, string_bytes, OnOk};
+ghost use Rattle.odb_lex.specs.Written.{Appends};
 ghost use Rattle.odb_model.specs.Canonical.{kind_text, column_text};
 
 use crate::put::Put;
@@ -18,7 +18,7 @@ impl Put for ColumnText {
 
 /// The kind of a column, with the most characters of a VARCHAR.
 fn put_kind(out: &mut String, length: Option<u64>) -> Result<(), AllocError>
-    ensures { OnOk result (string_bytes out.new ≡ string_bytes out.old ++ kind_text length) }
+    ensures { Appends result out.old out.new (kind_text length) }
 {
     match length {
         None => out.push_str(" INTEGER"),

@@ -1,9 +1,8 @@
 //! The texts of names and values.
-ghost use Rattle.std.specs.Prelude.{◌≡◌, ◌++◌, codes, string_bytes, OnOk};
-ghost use Rattle.odb_lex.specs.Quoted.{doubled};
 ghost use Rattle.odb_model.specs.Canonical.{value_text, tuple_text};
 
 use crate::put::{Put, put_joined};
+use odb_lex::put_quoted;
 use odb_values::{Text, Value, Values};
 use std::alloc::AllocError;
 
@@ -37,25 +36,4 @@ impl Put for Values {
         put_joined(out, self.as_slice())?;
         out.push_str(")")
     }
-}
-
-fn put_quoted(out: &mut String, text: &str) -> Result<(), AllocError>
-    ensures { OnOk result (string_bytes out.new ≡ string_bytes out.old ++ (codes "'" ++ doubled text.now ++ codes "'")) }
-{
-    out.push_str("'")?;
-    put_doubled(out, text)?;
-    out.push_str("'")
-}
-
-/// The text with each quote twice, copied in the pieces between the quotes.
-fn put_doubled(out: &mut String, text: &str) -> Result<(), AllocError>
-    ensures { OnOk result (string_bytes out.new ≡ string_bytes out.old ++ doubled text.now) }
-{
-    let mut rest = text;
-    while let Some((piece, after)) = rest.split_once('\'') {
-        out.push_str(piece)?;
-        out.push_str("''")?;
-        rest = after;
-    }
-    out.push_str(rest)
 }

@@ -8,8 +8,7 @@ use Rattle.odb_device.specs.Moments.{Runs}
 use Rattle.odb_device.proofs.Time.{begins, goes_on, joins, weakens, run_end}
 use Rattle.odb_device.proofs.Torn.{stays_from}
 use Rattle.odb_device.proofs.OneCall.{sync_from}
-use Rattle.odb_reclog.specs.Standing.{AreZero}
-use Rattle.odb_reclog.specs.Clearing.{ReadsZero}
+use Rattle.odb_device.specs.Zeros.{AreZero, ReadsZero}
 use Rattle.odb_reclog.proofs.Pieces.{from_widens, from_then}
 
 -- The file reads as zeros from one byte to before another, and nothing but the range to be cleared was written. `before` is whether

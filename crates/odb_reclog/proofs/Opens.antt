@@ -12,8 +12,10 @@ use Rattle.odb_reclog.specs.Records.{log_of, end_of_list}
 use Rattle.odb_reclog.specs.Standing.{Log, IsLog, StandsFor, Stands, list_in, list_of, tail_at}
 use Rattle.odb_reclog.specs.Moments.{KeepsLists}
 use Rattle.odb_reclog.specs.Ends.{EndsAt, closed_at}
+use Rattle.odb_reclog.specs.Regions.{IsOpened}
+use Rattle.odb_reclog.specs.declared.region.Region.{Region}
 use Rattle.odb_reclog.specs.declared.walk.ListEnd.{ListEnd}
-use Rattle.odb_reclog.proofs.Gates.{HasClosed, keeps_same, closed_has}
+use Rattle.odb_reclog.proofs.Gates.{HasClosed, keeps_same, closed_has, closes_kept}
 
 module _ (start end first at n : ℕ) where
   -- what a sync leaves is what a read gives, which is one of the images before it
@@ -94,3 +96,23 @@ module _ (log : Log) (found : ListEnd) (in_range : IsLog log) (place : log.place
   open_list None new is long ends = ap (list_of log) is
   open_list (Some f) new is long ends =
       ap (list_of log) is ∙ (closed_has log.start log.end log.first log.place f long (ends.place ∙ sym place)).list
+
+-- a sync reads as the file did
+list_kept : (start end first : ℕ) (old mid : Option File) → mid ≡ option_map kept old → list_in start end first mid ≡ list_in start end first old
+list_kept start end first None mid is = ap (list_in start end first) is
+list_kept start end first (Some f) mid is = ap (list_in start end first) is
+
+-- what is opened behind a sync is what was there before it
+pub opened_later : (r : Region) (log : Log) (old mid new : World) → Keeps r.file old mid → IsOpened r log mid new → IsOpened r log old new
+opened_later r log old mid new is_kept opened = record {
+  file = opened.file;
+  start = opened.start;
+  end = opened.end;
+  first = opened.first;
+  touched = opened.touched;
+  has_body = opened.has_body;
+  in_doubt = opened.in_doubt;
+  stands = opened.stands;
+  list = opened.list ∙ list_kept r.start r.end r.first (file_of r.file old) (file_of r.file mid) is_kept;
+  closes = closes_kept log.place r.end (file_of r.file old) (file_of r.file mid) (file_of r.file new) is_kept opened.closes;
+}

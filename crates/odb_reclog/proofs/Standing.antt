@@ -7,7 +7,8 @@ use Rattle.std.proofs.lemmas.Bool.{cases_lt, cases_eq, false≢true}
 use Rattle.odb_device.specs.Images.{Torn, part, overwritten}
 use Rattle.odb_device.proofs.Bytes.{part_same, part_at, length-overwritten, part-overwritten, part-overwritten_outside, part_inside, overwritten-inside}
 use Rattle.odb_reclog.specs.Records.{OPEN, gate_at, size_at, number_at, payload_at, is_record, log_of, end_of_list}
-use Rattle.odb_reclog.specs.Standing.{Log, IsLog, AreZero, StandsFor, HasBody, tail_at}
+use Rattle.odb_device.specs.Zeros.{AreZero}
+use Rattle.odb_reclog.specs.Standing.{Log, IsLog, StandsFor, HasBody, tail_at}
 use Rattle.odb_reclog.proofs.Records.{SameOn, torn_outside, gate_same, size_same, number_same, payload_same, no_room, no_gate, records_same, RecordAt, Leads, list_leads, leads_list, leads_few, leads_same, leads_more, end_more}
 
 -- a zero is no open gate

@@ -8,9 +8,9 @@ use Rattle.odb_device.specs.Calls.{Stays}
 use Rattle.odb_device.specs.Moments.{Runs}
 use Rattle.odb_device.proofs.Bytes.{image_kept}
 use Rattle.odb_device.proofs.Torn.{each_weakens}
-use Rattle.odb_reclog.specs.Standing.{Log, IsLog, AreZero, StandsFor, Stands, list_of, tail_of}
+use Rattle.odb_reclog.specs.Standing.{Log, IsLog, StandsFor, Stands, list_of, tail_of}
 use Rattle.odb_reclog.specs.Moments.{KeepsLists}
-use Rattle.odb_reclog.specs.Clearing.{ReadsZero}
+use Rattle.odb_device.specs.Zeros.{AreZero, ReadsZero}
 use Rattle.odb_reclog.proofs.Standing.{touched_log, cleared_log, stands_cleared, stands_bodiless, tail_zero}
 use Rattle.odb_reclog.proofs.Files.{behind_run, behind_each, stands_each, list_each}
 

@@ -4,7 +4,8 @@ use Rattle.odb_reclog.specs.Records.{HEAD}
 use Rattle.odb_reclog.specs.declared.error.RecError.{RecError}
 use Rattle.odb_reclog.specs.declared.error.RecError.TheVariants.{Fault, Full, NoMemory}
 
--- Full exactly where there is less room than a record of n bytes needs; else it is done, or a fault came
+-- Full exactly where there is less room than a record of n bytes needs; else it is done, or a fault
+-- came
 abbrev pub IsBodyAnswer : ℕ → ℕ → Result ⊤ RecError → Type 0
 IsBodyAnswer n room (Ok done) = HEAD + n ≤ room
 IsBodyAnswer n room (Err Fault) = HEAD + n ≤ room

@@ -12,4 +12,6 @@ pub record EndsAt (start end first : ℕ) (found : ListEnd) (bytes : List ℕ) :
 
 -- the file on the disk, where a gate at a place inside the region is closed, if it was open
 abbrev pub closed_at : ℕ → ℕ → File → File
-closed_at place end file = kept (if nat_lt place end && gate_at place file.bytes == OPEN then written place (0 ∷ []) file else file)
+closed_at place end file =
+    let is_open = nat_lt place end && gate_at place file.bytes == OPEN in
+    kept (if is_open then written place (0 ∷ []) file else file)

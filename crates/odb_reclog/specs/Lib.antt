@@ -6,4 +6,5 @@ pub mod Answers
 pub mod Reading
 pub mod Windows
 pub mod Ends
-pub mod Clearing
+pub mod Told
+pub mod Regions

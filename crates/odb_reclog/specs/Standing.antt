@@ -1,12 +1,14 @@
 -- A log in memory and the bytes of its file.
-use Rattle.std.specs.Prelude.{◌≡◌, ◌≢◌, ℕ, ◌+◌, ◌-◌, ◌^◌, ◌<◌, ◌≤◌, max, Bool, true, false, List, [], length, slice_index, Option, Some, None}
+use Rattle.std.specs.Prelude.{◌≡◌, ◌≢◌, ℕ, ◌+◌, ◌-◌, ◌^◌, ◌<◌, ◌≤◌, max, Bool, true, false, List, [], length, Option, Some, None}
 use Rattle.odb_device.specs.World.{File}
 use Rattle.odb_device.specs.Images.{EachImage, part}
+use Rattle.odb_device.specs.Zeros.{AreZero}
 use Rattle.odb_reclog.specs.Records.{OPEN, HEAD, gate_at, size_at, number_at, payload_at, log_of, end_of_list}
 
--- Its file, its region from `start` to before `end`, the number of the first record; the place and the number of the next record;
--- from where on the region is zeros on the disk; whether what stands between the gate of the next record and that byte may differ
--- from what a read gives; whether it is a body whose gate wasn't opened yet; and whether it isn't known if the last record is there.
+-- Its file, its region from `start` to before `end`, the number of the first record; the place and
+-- the number of the next record; from where on the region is zeros on the disk; whether what stands
+-- between the gate of the next record and that byte may differ from what a read gives; whether it
+-- is a body whose gate wasn't opened yet; and whether it isn't known if the last record is there.
 pub record Log : Type 0 where
   pub file : ℕ
   pub start : ℕ
@@ -19,8 +21,8 @@ pub record Log : Type 0 where
   pub has_body : Bool
   pub in_doubt : Bool
 
--- The region lies below 2^40, the place of the next record inside it or at its end, and no number ends the type. What isn't known
--- to be zeros lies inside the region, and so does a body.
+-- The region lies below 2^40, the place of the next record inside it or at its end, and no number
+-- ends the type. What isn't known to be zeros lies inside the region, and so does a body.
 pub record IsLog (log : Log) : Type 0 where
   pub start : log.start ≤ log.place
   pub end : log.place ≤ log.end
@@ -31,17 +33,13 @@ pub record IsLog (log : Log) : Type 0 where
   pub clear_to : log.clear_from ≤ max log.end (log.place + 1)
   pub body : log.has_body ≡ true → log.clear_from ≤ log.end
 
--- each byte from one to before another is zero
-abbrev pub AreZero : ℕ → ℕ → List ℕ → Type 0
-AreZero from to bytes = (i : ℕ) → from ≤ i → i < to → slice_index bytes i ≡ 0
-
 -- what stands between the gate of the next record and the zeros
 abbrev pub tail_at : Log → List ℕ → List ℕ
 tail_at log bytes = part (log.place + 1) (log.clear_from - (log.place + 1)) bytes
 
--- The bytes have this list, behind which the log goes on: the gate of the next record is closed, where there is room for one.
--- What stands between it and the zeros is this, unless it was touched.
-pub record StandsFor (log : Log) (records : List (List ℕ)) (between : List ℕ) (bytes : List ℕ) : Type 0 where
+-- The bytes have this list, behind which the log goes on: the gate of the next record is closed,
+-- where there is room for one. What stands between it and the zeros is this, unless it was touched.
+pub record StandsFor (log : Log) (records : List (List ℕ)) (between bytes : List ℕ) : Type 0 where
   pub in_range : IsLog log
   pub long : log.end ≤ length bytes
   pub list : log_of log.start log.end log.first bytes ≡ records

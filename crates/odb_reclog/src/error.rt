@@ -1,4 +1,4 @@
-// What the calls of a record log refuse.
+//! What the calls of a record log refuse.
 ghost use Rattle.odb_reclog.specs.declared.error.RecError.TheVariants.{Fault, NoMemory};
 ghost use Rattle.std.specs.Prelude.{◌≡◌};
 

@@ -1,4 +1,4 @@
-// The bytes of a record before its payload.
+//! The bytes of a record before its payload.
 ghost use Rattle.std.specs.Prelude.{◌≡◌, ◌+◌, ◌^◌, ◌<◌, ◌≤◌, length, if◌then◌else◌, Some, None, IfSome};
 ghost use Rattle.odb_reclog.specs.Reading.{head_at, is_record_head};
 
@@ -43,10 +43,12 @@ impl Head {
         place + HEAD + u64::from(self.size)
     }
 
-    /// Where the record of this number ends that has this head at a place; None where it isn't one of the region.
+    /// Where the record of this number ends that has this head at a place; None where it isn't one
+    /// of the region.
     pub(crate) fn end_of_record(self, place: u64, end: u64, number: u64) -> Option<u64>
         requires { place ≤ 2 ^ 40 }
-        ensures end { result ≡ (if is_record_head end number place self then Some (place + 13 + self.size) else None) }
+        ensures end { result ≡ (if is_record_head end number place self
+            then Some (place + 13 + self.size) else None) }
         ensures forward { IfSome result (λ next. (place + 13 ≤ next) × (next ≤ end)) }
         ensures size { IfSome result (λ next. next < place + 13 + 2 ^ 32) }
     {

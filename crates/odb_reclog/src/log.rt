@@ -1,11 +1,12 @@
+//! A record log in memory.
 ghost use Rattle.std.specs.Prelude.{◌≡◌, ◌^◌, ◌-◌, ◌≤◌, ℕ, List, false, length};
 
 use std::marker::Model;
 
 /// A record log: a region of a file, and the place at which its next record goes.
 ///
-/// A body is written behind the closed gate of the next place, and counts from the moment at which that gate is open on the disk.
-/// All places are bytes from the file's start.
+/// A body is written behind the closed gate of the next place, and counts from the moment at which
+/// that gate is open on the disk. All places are bytes from the file's start.
 #[derive(Debug, Drop)]
 pub struct RecLog {
     pub(crate) file: u32,
@@ -38,16 +39,21 @@ impl Model for RecLog {
 }
 
 impl RecLog {
-    ghost use Rattle.odb_reclog.specs.Standing.{AreZero, StandsFor};
+    ghost use Rattle.odb_device.specs.Zeros.{AreZero};
+    ghost use Rattle.odb_reclog.specs.Standing.{StandsFor};
 
     /// Gives the region a later end, in bytes from the file's start.
     ///
-    /// It makes no call of a store: what stands between the old end and the new one has to be zeros on the disk already.
+    /// It makes no call of a store: what stands between the old end and the new one has to be zeros
+    /// on the disk already.
     pub fn extend(&mut self, end: u64)
         requires range { (self.old.end ≤ end) × (end ≤ 2 ^ 40) }
         requires usable { self.old.in_doubt ≡ false }
         ensures log { self.new ≡ record self.old { end = end } }
-        ensures stands { (records : List (List ℕ)) (tail bytes : List ℕ) → StandsFor self.old records tail bytes → end ≤ length bytes → AreZero self.old.end end bytes → StandsFor self.new records tail bytes }
+        ensures stands { (records : List (List ℕ)) (tail bytes : List ℕ)
+            → StandsFor self.old records tail bytes
+            → end ≤ length bytes → AreZero self.old.end end bytes
+            → StandsFor self.new records tail bytes }
     {
         self.end = end;
     }

@@ -1,4 +1,4 @@
-// The list of a region, computed plainly on bytes at rest.
+//! The list of a region, computed plainly on bytes at rest.
 ghost use Rattle.std.specs.Prelude.{◌≡◌, ◌+◌, ◌^◌, ◌≤◌, length, IfOk, IfSome};
 ghost use Rattle.odb_reclog.specs.Records.{log_of};
 ghost use Rattle.odb_reclog.specs.Reading.{next_at};
@@ -7,7 +7,8 @@ use crate::head::{HEAD, Head};
 use odb_values::{Bytes, Frozen};
 use std::alloc::{AllocError, Global};
 
-/// The payloads of a region's list, whose first record has the number `first`: the list of the file that these bytes are.
+/// The payloads of a region's list, whose first record has the number `first`: the list of the file
+/// that these bytes are.
 ///
 /// One pass over the list, with a copy of each payload. The error is want of memory.
 pub fn log_of(

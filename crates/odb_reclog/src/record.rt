@@ -1,4 +1,4 @@
-// A record as it is read.
+//! A record as it is read.
 use odb_values::Bytes;
 
 /// A record of a log.

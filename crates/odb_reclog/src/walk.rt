@@ -1,15 +1,17 @@
-// The walk over the records of a region.
+//! The walk over the records of a region.
 ghost use Rattle.std.specs.Prelude.{◌≡◌, ◌⊎◌, ◌+◌, ◌-◌, ◌^◌, ◌<◌, ◌≤◌, length, Err, OnOk, IfOk, IfErr, IfSome, option_map};
 ghost use Rattle.odb_device.specs.World.{file_of};
 ghost use Rattle.odb_device.specs.Images.{part};
 ghost use Rattle.odb_device.specs.Calls.{HasCause, FileCountRose};
-ghost use Rattle.odb_device.specs.Moments.{Runs};
-ghost use Rattle.odb_reclog.specs.Records.{log_of, end_of_list};
+ghost use Rattle.odb_reclog.specs.Records.{log_of};
 ghost use Rattle.odb_reclog.specs.Reading.{next_at};
 ghost use Rattle.odb_reclog.specs.Windows.{Shows};
 ghost use Rattle.odb_reclog.specs.Ends.{EndsAt};
+ghost use Rattle.odb_reclog.specs.Told.{IfTold, OnlyReads};
+ghost use Rattle.odb_reclog.specs.Regions.{IsRegion, IsLong, IsEndIn, IsCounted};
 
 use crate::head::HEAD;
+use crate::region::Region;
 use crate::window::Window;
 use crate::{LogRecord, RecError};
 use odb_device::{Failed, Store};
@@ -23,6 +25,13 @@ pub(crate) struct ListEnd {
     pub(crate) number: u64,
 }
 
+/// Where the list of a region ends, and its payloads, in order.
+#[derive(Debug, Drop)]
+pub(crate) struct FoundList {
+    pub(crate) end: ListEnd,
+    pub(crate) payloads: Frozen<Bytes>,
+}
+
 /// Where the record of this number ends that stands at a place; None where there is none.
 fn next_place<S: Store>(
     store: &mut S,
@@ -34,10 +43,11 @@ fn next_place<S: Store>(
 ) -> Result<Option<u64>, Failed>
     requires range { (place ≤ end) × (end ≤ 2 ^ 40) }
     requires shows { Shows window.old (file_of file (S.world store.old)) }
-    requires long { IfSome (file_of file (S.world store.old)) (λ f. end ≤ length f.bytes) }
-    ensures run { Runs file (λ f. f ≡ file_of file (S.world store.old)) (S.world store.old) (S.world store.new) }
+    requires long { IfTold file (S.world store.old) (λ bytes. end ≤ length bytes) }
+    ensures run { OnlyReads file (S.world store.old) (S.world store.new) }
     ensures shows { OnOk result (Shows window.new (file_of file (S.world store.old))) }
-    ensures next { IfSome (file_of file (S.world store.old)) (λ f. IfOk result (λ next. next ≡ next_at end number place f.bytes)) }
+    ensures next { IfTold file (S.world store.old)
+        (λ bytes. IfOk result (λ next. next ≡ next_at end number place bytes)) }
     ensures forward { IfOk result (λ next. IfSome next (λ n. (place + 13 ≤ n) × (n ≤ end))) }
     ensures size { IfOk result (λ next. IfSome next (λ n. n < place + 13 + 2 ^ 32)) }
     ensures cause { HasCause file (S.world store.old) (S.world store.new) result }
@@ -51,28 +61,23 @@ fn next_place<S: Store>(
     }
 }
 
-/// Where the list of a region ends whose first record has this number.
+/// Where the list of a region ends.
 ///
-/// One pass over the list in pieces of at most 65,536 bytes, which skips what of a payload lies beyond a piece.
-pub(crate) fn find_end<S: Store>(
-    store: &mut S,
-    file: u32,
-    start: u64,
-    end: u64,
-    first: u64,
-) -> Result<ListEnd, Failed>
-    requires region { (start ≤ end) × (end ≤ 2 ^ 40) }
-    requires first { first ≤ 2 ^ 63 }
-    requires long { IfSome (file_of file (S.world store.old)) (λ f. end ≤ length f.bytes) }
-    ensures run { Runs file (λ f. f ≡ file_of file (S.world store.old)) (S.world store.old) (S.world store.new) }
-    ensures end { IfSome (file_of file (S.world store.old)) (λ f. IfOk result (λ found. EndsAt start end first found f.bytes)) }
-    ensures range { IfOk result (λ found. (start ≤ found.place) × (found.place ≤ end) × (found.number + start ≤ first + found.place)) }
-    ensures cause { HasCause file (S.world store.old) (S.world store.new) result }
+/// One pass over the list in pieces of at most 65,536 bytes, which skips what of a payload lies
+/// beyond a piece.
+pub(crate) fn find_end<S: Store>(store: &mut S, region: Region) -> Result<ListEnd, Failed>
+    requires region { IsRegion region }
+    requires long { IsLong region (S.world store.old) }
+    ensures run { OnlyReads region.file (S.world store.old) (S.world store.new) }
+    ensures end { IfTold region.file (S.world store.old)
+        (λ bytes. IfOk result (λ found. EndsAt region.start region.end region.first found bytes)) }
+    ensures range { IfOk result (IsEndIn region) }
+    ensures cause { HasCause region.file (S.world store.old) (S.world store.new) result }
 {
     let mut window = Window::new();
-    let mut place = start;
-    let mut number = first;
-    while let Some(next) = next_place(store, &mut window, file, place, end, number)? {
+    let mut place = region.start;
+    let mut number = region.first;
+    while let Some(next) = next_place(store, &mut window, region.file, place, region.end, number)? {
         place = next;
         number += 1;
     }
@@ -91,14 +96,18 @@ fn next_record<S: Store>(
 ) -> Result<Option<LogRecord>, RecError>
     requires range { (place ≤ end) × (end ≤ 2 ^ 40) }
     requires shows { Shows window.old (file_of file (S.world store.old)) }
-    requires long { IfSome (file_of file (S.world store.old)) (λ f. end ≤ length f.bytes) }
-    ensures run { Runs file (λ f. f ≡ file_of file (S.world store.old)) (S.world store.old) (S.world store.new) }
+    requires long { IfTold file (S.world store.old) (λ bytes. end ≤ length bytes) }
+    ensures run { OnlyReads file (S.world store.old) (S.world store.new) }
     ensures shows { OnOk result (Shows window.new (file_of file (S.world store.old))) }
-    ensures next { IfSome (file_of file (S.world store.old)) (λ f. IfOk result (λ found. option_map (λ r. r.next) found ≡ next_at end number place f.bytes)) }
-    ensures payload { IfSome (file_of file (S.world store.old)) (λ f. IfOk result (λ found. IfSome found (λ r. r.payload ≡ part (place + 13) (r.next - (place + 13)) f.bytes))) }
-    ensures forward { IfOk result (λ found. IfSome found (λ r. (r.next ≡ place + 13 + length r.payload) × (r.next ≤ end))) }
+    ensures next { IfTold file (S.world store.old) (λ bytes. IfOk result
+        (λ found. option_map (λ r. r.next) found ≡ next_at end number place bytes)) }
+    ensures payload { IfTold file (S.world store.old) (λ bytes. IfOk result (λ found. IfSome found
+        (λ r. r.payload ≡ part (place + 13) (r.next - (place + 13)) bytes))) }
+    ensures forward { IfOk result (λ found. IfSome found
+        (λ r. (r.next ≡ place + 13 + length r.payload) × (r.next ≤ end))) }
     ensures refusal { IfErr result (λ e. (e ≡ RecError.Fault) ⊎ (e ≡ RecError.NoMemory)) }
-    ensures cause { result ≡ Err RecError.Fault → FileCountRose file (S.world store.old) (S.world store.new) }
+    ensures cause { result ≡ Err RecError.Fault
+        → FileCountRose file (S.world store.old) (S.world store.new) }
 {
     let Some(next) = next_place(store, window, file, place, end, number)? else {
         return Ok(None);
@@ -114,38 +123,48 @@ fn next_record<S: Store>(
     }
 }
 
-/// Where the list of a region ends whose first record has this number, and the list's payloads.
+/// Where the list of a region ends, and its payloads.
 ///
-/// One pass over the list in pieces of at most 65,536 bytes, and by one read more each payload that lies across the end of a piece.
-/// Memory is taken for the payloads.
+/// One pass over the list in pieces of at most 65,536 bytes, and by one read more each payload that
+/// lies across the end of a piece. Memory is taken for the payloads.
 pub(crate) fn find_payloads<S: Store>(
     alloc: Global,
     store: &mut S,
-    file: u32,
-    start: u64,
-    end: u64,
-    first: u64,
-) -> Result<(ListEnd, Frozen<Bytes>), RecError>
-    requires region { (start ≤ end) × (end ≤ 2 ^ 40) }
-    requires first { first ≤ 2 ^ 63 }
-    requires long { IfSome (file_of file (S.world store.old)) (λ f. end ≤ length f.bytes) }
-    ensures run { Runs file (λ f. f ≡ file_of file (S.world store.old)) (S.world store.old) (S.world store.new) }
-    ensures end { IfSome (file_of file (S.world store.old)) (λ f. IfOk result (λ found. EndsAt start end first found.0 f.bytes)) }
-    ensures payloads { IfSome (file_of file (S.world store.old)) (λ f. IfOk result (λ found. found.1 ≡ log_of start end first f.bytes)) }
-    ensures count { IfOk result (λ found. (first + length found.1 ≡ found.0.number) × (end_of_list start found.1 ≡ found.0.place)) }
-    ensures range { IfOk result (λ found. (start ≤ found.0.place) × (found.0.place ≤ end) × (found.0.number + start ≤ first + found.0.place)) }
+    region: Region,
+) -> Result<FoundList, RecError>
+    requires region { IsRegion region }
+    requires long { IsLong region (S.world store.old) }
+    ensures run { OnlyReads region.file (S.world store.old) (S.world store.new) }
+    ensures end { IfTold region.file (S.world store.old)
+        (λ bytes. IfOk result
+        (λ found. EndsAt region.start region.end region.first found.end bytes)) }
+    ensures payloads { IfTold region.file (S.world store.old) (λ bytes. IfOk result
+        (λ found. found.payloads ≡ log_of region.start region.end region.first bytes)) }
+    ensures count { IfOk result (IsCounted region) }
     ensures refusal { IfErr result (λ e. (e ≡ RecError.Fault) ⊎ (e ≡ RecError.NoMemory)) }
-    ensures cause { result ≡ Err RecError.Fault → FileCountRose file (S.world store.old) (S.world store.new) }
+    ensures cause { result ≡ Err RecError.Fault
+        → FileCountRose region.file (S.world store.old) (S.world store.new) }
 {
     let mut window = Window::new();
     let mut payloads = List::new(alloc);
-    let mut place = start;
-    let mut number = first;
-    while let Some(record) = next_record(alloc, store, &mut window, file, place, end, number)? {
+    let mut place = region.start;
+    let mut number = region.first;
+    while let Some(record) = next_record(
+        alloc,
+        store,
+        &mut window,
+        region.file,
+        place,
+        region.end,
+        number,
+    )? {
         payloads.reserve()?;
         payloads.push(record.payload);
         place = record.next;
         number += 1;
     }
-    Ok((ListEnd { place, number }, Frozen::new(payloads)))
+    Ok(FoundList {
+        end: ListEnd { place, number },
+        payloads: Frozen::new(payloads),
+    })
 }

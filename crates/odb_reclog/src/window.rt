@@ -1,4 +1,4 @@
-// A part of a file as it was read last.
+//! A part of a file as it was read last.
 use crate::RecError;
 use crate::head::{HEAD, Head};
 use crate::reading::read_bytes;
@@ -6,12 +6,16 @@ use odb_device::{Failed, Store};
 use odb_values::{Bytes, Frozen};
 use std::alloc::Global;
 
+/// How many bytes are read or written by one call at most, where a region is gone over.
+pub(crate) const PIECE: usize = 65_536;
+
 /// Bytes of a file as they were read last.
 ///
-/// By one window a walk over a region reads it in pieces of at most 65,536 bytes, which the window holds in itself.
+/// By one window a walk over a region reads it in pieces of at most 65,536 bytes, which the window
+/// holds in itself.
 #[derive(Drop)]
 pub struct Window {
-    bytes: [u8; 65_536],
+    bytes: [u8; PIECE],
     /// The place of the first of them in the file.
     from: u64,
     /// How many of them are the file's.
@@ -23,7 +27,7 @@ impl Window {
     ghost use Rattle.odb_device.specs.World.{File, file_of};
     ghost use Rattle.odb_device.specs.Calls.{HasCause, FileCountRose};
     ghost use Rattle.odb_device.specs.Images.{part};
-    ghost use Rattle.odb_device.specs.Moments.{Runs};
+    ghost use Rattle.odb_reclog.specs.Told.{IfTold, OnlyReads};
     ghost use Rattle.odb_reclog.specs.Reading.{head_at};
     ghost use Rattle.odb_reclog.specs.Windows.{Shows};
 
@@ -32,7 +36,7 @@ impl Window {
         ensures { (file : Option File) → Shows result file }
     {
         Window {
-            bytes: [0; 65_536],
+            bytes: [0; PIECE],
             from: 0,
             held: 0,
         }
@@ -41,7 +45,8 @@ impl Window {
     /// Whether it holds the head of a record at this place.
     fn holds(&self, place: u64) -> bool
         requires { place ≤ 2 ^ 40 }
-        ensures { IsTrue result ↔ ((self.now.from ≤ place) × (place + 13 ≤ self.now.from + self.now.held)) }
+        ensures { IsTrue result
+            ↔ ((self.now.from ≤ place) × (place + 13 ≤ self.now.from + self.now.held)) }
     {
         self.from <= place && place - self.from + HEAD <= self.held as u64
     }
@@ -51,7 +56,8 @@ impl Window {
         requires place { place ≤ 2 ^ 40 }
         requires held { (self.now.from ≤ place) × (place + 13 ≤ self.now.from + self.now.held) }
         requires within { self.now.held ≤ 65536 }
-        ensures { (file : Option File) → Shows self.now file → IfSome file (λ f. result ≡ head_at place f.bytes) }
+        ensures { (file : Option File) → Shows self.now file
+            → IfSome file (λ f. result ≡ head_at place f.bytes) }
     {
         let at = (place - self.from) as usize;
         Head::from_bytes(&self.bytes[at..at + HEAD as usize])
@@ -66,21 +72,24 @@ impl Window {
         end: u64,
     ) -> Result<(), Failed>
         requires range { (place + 13 ≤ end) × (end ≤ 2 ^ 40) }
-        ensures run { Runs file (λ f. f ≡ file_of file (S.world store.old)) (S.world store.old) (S.world store.new) }
+        ensures run { OnlyReads file (S.world store.old) (S.world store.new) }
         ensures shows { OnOk result (Shows self.new (file_of file (S.world store.old))) }
         ensures from { OnOk result (self.new.from ≡ place) }
-        ensures held { OnOk result (IfSome (file_of file (S.world store.old)) (λ f. end ≤ length f.bytes → 13 ≤ self.new.held)) }
+        ensures held { OnOk result (IfTold file (S.world store.old)
+            (λ bytes. end ≤ length bytes → 13 ≤ self.new.held)) }
         ensures cause { HasCause file (S.world store.old) (S.world store.new) result }
     {
-        let size = (end - place).min(65_536) as usize;
+        let size = (end - place).min(PIECE as u64) as usize;
         self.held = store.read_at(file, place, &mut self.bytes[..size])?;
         self.from = place;
         Ok(())
     }
 
-    /// The head of a record at this place of a region that ends at `end`; None where the store gives fewer than 13 bytes.
+    /// The head of a record at this place of a region that ends at `end`; None where the store
+    /// gives fewer than 13 bytes.
     ///
-    /// One read, of at most 65,536 bytes of the region from this place on, where the window doesn't hold the head.
+    /// One read, of at most 65,536 bytes of the region from this place on, where the window doesn't
+    /// hold the head.
     pub(crate) fn head<S: Store>(
         &mut self,
         store: &mut S,
@@ -90,9 +99,10 @@ impl Window {
     ) -> Result<Option<Head>, Failed>
         requires range { (place + 13 ≤ end) × (end ≤ 2 ^ 40) }
         requires shows { Shows self.old (file_of file (S.world store.old)) }
-        ensures run { Runs file (λ f. f ≡ file_of file (S.world store.old)) (S.world store.old) (S.world store.new) }
+        ensures run { OnlyReads file (S.world store.old) (S.world store.new) }
         ensures shows { OnOk result (Shows self.new (file_of file (S.world store.old))) }
-        ensures head { IfSome (file_of file (S.world store.old)) (λ f. end ≤ length f.bytes → IfOk result (λ found. found ≡ Some (head_at place f.bytes))) }
+        ensures head { IfTold file (S.world store.old) (λ bytes. end ≤ length bytes
+            → IfOk result (λ found. found ≡ Some (head_at place bytes))) }
         ensures cause { HasCause file (S.world store.old) (S.world store.new) result }
     {
         if !self.holds(place) {
@@ -107,7 +117,8 @@ impl Window {
     /// Whether it holds so many bytes from a place on.
     fn covers(&self, place: u64, size: u32) -> bool
         requires { place ≤ 2 ^ 40 }
-        ensures { IsTrue result ↔ ((self.now.from ≤ place) × (place + size ≤ self.now.from + self.now.held)) }
+        ensures { IsTrue result
+            ↔ ((self.now.from ≤ place) × (place + size ≤ self.now.from + self.now.held)) }
     {
         self.from <= place && place - self.from + u64::from(size) <= self.held as u64
     }
@@ -125,11 +136,13 @@ impl Window {
     ) -> Result<Option<Bytes>, RecError>
         requires place { place ≤ 2 ^ 40 }
         requires shows { Shows self.now (file_of file (S.world store.old)) }
-        ensures run { Runs file (λ f. f ≡ file_of file (S.world store.old)) (S.world store.old) (S.world store.new) }
-        ensures bytes { IfSome (file_of file (S.world store.old)) (λ f. place + size ≤ length f.bytes → IfOk result (λ found. found ≡ Some (part place size f.bytes))) }
+        ensures run { OnlyReads file (S.world store.old) (S.world store.new) }
+        ensures bytes { IfTold file (S.world store.old) (λ bytes. place + size ≤ length bytes
+            → IfOk result (λ found. found ≡ Some (part place size bytes))) }
         ensures size { IfOk result (λ found. IfSome found (λ bytes. length bytes ≡ size)) }
         ensures refusal { IfErr result (λ e. (e ≡ RecError.Fault) ⊎ (e ≡ RecError.NoMemory)) }
-        ensures cause { result ≡ Err RecError.Fault → FileCountRose file (S.world store.old) (S.world store.new) }
+        ensures cause { result ≡ Err RecError.Fault
+            → FileCountRose file (S.world store.old) (S.world store.new) }
     {
         if !self.covers(place, size) {
             return read_bytes(alloc, store, file, place, size);

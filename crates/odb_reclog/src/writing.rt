@@ -1,45 +1,46 @@
-// What writes behind the next gate, and opens it.
+//! What writes behind the next gate, and opens it.
 ghost use Rattle.std.specs.Prelude.{◌≡◌, ◌⊎◌, ◌+◌, ◌-◌, ◌^◌, ◌<◌, ◌≤◌, ℕ, Some, IsTrue, ◌↔◌, EachIndex, slice_index, [], ◌∷◌, ◌++◌, true, false, length, Ok, Err, IfOk, OnOk, OnErr, IfErr, IfSome, option_map};
 ghost use Rattle.std.specs.Int.{w32, w64, to_be_bytes};
 ghost use Rattle.odb_device.specs.World.{File, file_of};
-ghost use Rattle.odb_device.specs.Images.{TornFrom, IsKept, part, written, kept};
+ghost use Rattle.odb_device.specs.Images.{IsKept, part, written, kept};
 ghost use Rattle.odb_device.specs.Calls.{CallsOn, HasCause, FileCountRose, Stays};
-ghost use Rattle.odb_device.specs.Moments.{Runs};
-ghost use Rattle.odb_reclog.specs.Standing.{AreZero};
-ghost use Rattle.odb_reclog.specs.Clearing.{ReadsZero};
+ghost use Rattle.odb_device.specs.Zeros.{AreZero, ReadsZero, ZerosGoOn};
+ghost use Rattle.odb_reclog.specs.Told.{IfTold, TearsOnly};
 
 use crate::head::{HEAD, OPEN};
+use crate::window::PIECE;
 use crate::{RecError, RecLog};
-use odb_device::{Failed, Store, write_synced};
-
-/// How many bytes of a tail are cleared by one call.
-const PIECE: usize = 65536;
-
-static ZEROS: [u8; PIECE] = [0; PIECE];
+use odb_device::{Failed, Store, write_synced, write_zeros};
 
 impl RecLog {
-    ghost use Rattle.odb_reclog.specs.Moments.{KeepsLists, KeepsOrAdds};
-    ghost use Rattle.odb_reclog.specs.Standing.{Stands, IsClear, HasItsBody, SameList, list_of, body_of};
-    ghost use Rattle.odb_reclog.specs.Records.{log_of, payload_at};
+    ghost use Rattle.odb_reclog.specs.Regions.{region_of, KeepsListFrom, KeepsOrAddsBody, AddsBody, ReadsClear};
+    ghost use Rattle.odb_reclog.specs.Standing.{Stands, IsClear, HasItsBody, SameList, list_of};
+    ghost use Rattle.odb_reclog.specs.Records.{payload_at};
     ghost use Rattle.odb_reclog.specs.Answers.{IsBodyAnswer};
 
-    /// Makes all behind the gate of the next record zeros on the disk, up to the region's end; the gate itself is never written.
+    /// Makes all behind the gate of the next record zeros on the disk, up to the region's end; the
+    /// gate itself is never written.
     ///
-    /// Where the tail is clear it makes no call of the store. Else it goes once over the bytes that may not be zeros, 65,536 at a
-    /// time: after a fault or a body that was written all of them are written; else each piece is read, and written where it has
-    /// another byte. One sync follows where something was written. A body that was written is given up. After `Fault` it may be
+    /// Where the tail is clear it makes no call of the store. Else it goes once over the bytes that
+    /// may not be zeros, 65,536 at a time: after a fault or a body that was written all of them are
+    /// written; else each piece is read, and written where it has another byte. One sync follows
+    /// where something was written. A body that was written is given up. After `Fault` it may be
     /// called again.
     pub fn clear_tail<S: Store>(&mut self, store: &mut S) -> Result<(), RecError>
         requires usable { self.old.in_doubt ≡ false }
         requires stands { Stands self.old (file_of self.old.file (S.world store.old)) }
-        ensures run { Runs self.old.file (KeepsLists self.old.start self.old.end self.old.first (self.old.place + 1) (self.old.end - (self.old.place + 1)) (file_of self.old.file (S.world store.old))) (S.world store.old) (S.world store.new) }
+        ensures run { KeepsListFrom (self.old.place + 1) (region_of self.old)
+            (S.world store.old) (S.world store.new) }
         ensures stands { Stands self.new (file_of self.old.file (S.world store.new)) }
-        ensures list { list_of self.new (file_of self.old.file (S.world store.new)) ≡ list_of self.old (file_of self.old.file (S.world store.old)) }
+        ensures list { list_of self.new (file_of self.old.file (S.world store.new))
+            ≡ list_of self.old (file_of self.old.file (S.world store.old)) }
         ensures clear { OnOk result (IsClear self.new × (self.new.has_body ≡ false)) }
         ensures same { SameList self.old self.new }
         ensures quiet { IsClear self.old → (result ≡ Ok tt) × (store.new ≡ store.old) }
-        ensures unwritten { self.old.touched ≡ false → IfSome (file_of self.old.file (S.world store.old)) (λ f. AreZero (self.old.place + 1) self.old.end f.bytes) → Stays self.old.file (S.world store.old) (S.world store.new) }
-        ensures untouched { self.old.touched ≡ false → IfSome (file_of self.old.file (S.world store.old)) (λ f. AreZero (self.old.place + 1) self.old.end f.bytes → self.new.touched ≡ false) }
+        ensures unwritten { self.old.touched ≡ false → ReadsClear self.old (S.world store.old)
+            → Stays self.old.file (S.world store.old) (S.world store.new) }
+        ensures untouched { self.old.touched ≡ false → IfTold self.old.file (S.world store.old)
+            (λ bytes. AreZero (self.old.place + 1) self.old.end bytes → self.new.touched ≡ false) }
         ensures refusal { IfErr result (λ e. e ≡ RecError.Fault) }
         ensures cause { HasCause self.old.file (S.world store.old) (S.world store.new) result }
     {
@@ -59,25 +60,34 @@ impl RecLog {
         Ok(())
     }
 
-    /// Writes a record behind the closed gate of the next place, and puts it on the disk. It counts only once its gate is open.
+    /// Writes a record behind the closed gate of the next place, and puts it on the disk. It counts
+    /// only once its gate is open.
     ///
-    /// It takes two writes and one sync. `Full` says how many bytes it needs and how many are left; then it made no call of the
-    /// store and changed nothing. After `Fault` the tail isn't clear: `clear_tail` comes before the next body.
+    /// It takes two writes and one sync. `Full` says how many bytes it needs and how many are left;
+    /// then it made no call of the store and changed nothing. After `Fault` the tail isn't clear:
+    /// `clear_tail` comes before the next body.
     pub fn write_body<S: Store>(&mut self, store: &mut S, payload: &[u8]) -> Result<(), RecError>
         requires usable { self.old.in_doubt ≡ false }
         requires size { length payload.now < 2 ^ 32 }
         requires clear { IsClear self.old }
         requires stands { Stands self.old (file_of self.old.file (S.world store.old)) }
         ensures answer { IsBodyAnswer (length payload.now) (self.old.end - self.old.place) result }
-        ensures full { (need room : ℕ) → result ≡ Err (RecError.Full need room) → (self.new ≡ self.old) × (store.new ≡ store.old) }
-        ensures run { Runs self.old.file (KeepsLists self.old.start self.old.end self.old.first (self.old.place + 1) (self.old.end - (self.old.place + 1)) (file_of self.old.file (S.world store.old))) (S.world store.old) (S.world store.new) }
+        ensures full { (need room : ℕ) → result ≡ Err (RecError.Full need room)
+            → (self.new ≡ self.old) × (store.new ≡ store.old) }
+        ensures run { KeepsListFrom (self.old.place + 1) (region_of self.old)
+            (S.world store.old) (S.world store.new) }
         ensures stands { Stands self.new (file_of self.old.file (S.world store.new)) }
-        ensures list { list_of self.new (file_of self.old.file (S.world store.new)) ≡ list_of self.old (file_of self.old.file (S.world store.old)) }
-        ensures written { OnOk result ((self.new.has_body ≡ true) × HasItsBody self.new (file_of self.old.file (S.world store.new))) }
-        ensures payload { OnOk result (IfSome (file_of self.old.file (S.world store.new)) (λ f. payload_at self.new.place f.bytes ≡ payload.now)) }
-        ensures behind { OnOk result (self.new.clear_from ≡ self.old.place + 13 + length payload.now) }
+        ensures list { list_of self.new (file_of self.old.file (S.world store.new))
+            ≡ list_of self.old (file_of self.old.file (S.world store.old)) }
+        ensures written { OnOk result ((self.new.has_body ≡ true)
+            × HasItsBody self.new (file_of self.old.file (S.world store.new))) }
+        ensures payload { OnOk result (IfTold self.old.file (S.world store.new)
+            (λ bytes. payload_at self.new.place bytes ≡ payload.now)) }
+        ensures behind { OnOk result
+            (self.new.clear_from ≡ self.old.place + 13 + length payload.now) }
         ensures same { SameList self.old self.new }
-        ensures cause { result ≡ Err RecError.Fault → FileCountRose self.old.file (S.world store.old) (S.world store.new) }
+        ensures cause { result ≡ Err RecError.Fault
+            → FileCountRose self.old.file (S.world store.old) (S.world store.new) }
     {
         let need = HEAD + payload.len() as u64;
         let room = self.room();
@@ -93,22 +103,26 @@ impl RecLog {
         Ok(())
     }
 
-    /// Opens the gate of the record that was written, and answers its number. The list then ends with that record.
+    /// Opens the gate of the record that was written, and answers its number. The list then ends
+    /// with that record.
     ///
-    /// It takes one write and one sync. After `Fault` it isn't known whether the record counts, and the log is in doubt: only
-    /// `open`, and what takes no store, may follow.
+    /// It takes one write and one sync. After `Fault` it isn't known whether the record counts, and
+    /// the log is in doubt: only `open`, and what takes no store, may follow.
     pub fn open_gate<S: Store>(&mut self, store: &mut S) -> Result<u64, RecError>
         requires usable { self.old.in_doubt ≡ false }
         requires written { self.old.has_body ≡ true }
         requires stands { Stands self.old (file_of self.old.file (S.world store.old)) }
         requires body { HasItsBody self.old (file_of self.old.file (S.world store.old)) }
-        ensures run { Runs self.old.file (KeepsOrAdds self.old.start self.old.end self.old.first (body_of self.old (file_of self.old.file (S.world store.old))) self.old.place 1 (file_of self.old.file (S.world store.old))) (S.world store.old) (S.world store.new) }
+        ensures run { KeepsOrAddsBody self.old (S.world store.old) (S.world store.new) }
         ensures stands { OnOk result (Stands self.new (file_of self.old.file (S.world store.new))) }
-        ensures list { OnOk result (IfSome (file_of self.old.file (S.world store.new)) (λ f. log_of self.new.start self.new.end self.new.first f.bytes ≡ list_of self.old (file_of self.old.file (S.world store.old)) ++ body_of self.old (file_of self.old.file (S.world store.old)) ∷ [])) }
+        ensures list { OnOk result
+            (AddsBody self.old self.new (S.world store.old) (S.world store.new)) }
         ensures number { IfOk result (λ n. n ≡ self.old.next) }
-        ensures ok { OnOk result ((self.new.next ≡ self.old.next + 1) × IsClear self.new × (self.new.has_body ≡ false) × (self.new.in_doubt ≡ false)) }
+        ensures ok { OnOk result ((self.new.next ≡ self.old.next + 1) × IsClear self.new
+            × (self.new.has_body ≡ false) × (self.new.in_doubt ≡ false)) }
         ensures place { OnOk result (self.new.place ≡ self.old.clear_from) }
-        ensures region { (self.new.file ≡ self.old.file) × (self.new.start ≡ self.old.start) × (self.new.end ≡ self.old.end) × (self.new.first ≡ self.old.first) }
+        ensures region { (self.new.file ≡ self.old.file) × (self.new.start ≡ self.old.start)
+            × (self.new.end ≡ self.old.end) × (self.new.first ≡ self.old.first) }
         ensures err { OnErr result (self.new ≡ record self.old { in_doubt = true }) }
         ensures refusal { IfErr result (λ e. e ≡ RecError.Fault) }
         ensures cause { HasCause self.old.file (S.world store.old) (S.world store.new) result }
@@ -126,8 +140,9 @@ impl RecLog {
     }
 }
 
-/// Makes the bytes from one to before another zeros on the disk: where they may differ from what a read gives, without a look;
-/// else the pieces that read otherwise. `touched` becomes true before the first write.
+/// Makes the bytes from one to before another zeros on the disk: where they may differ from what a
+/// read gives, without a look; else the pieces that read otherwise. `touched` becomes true before
+/// the first write.
 fn clear_range<S: Store>(
     store: &mut S,
     file: u32,
@@ -136,11 +151,13 @@ fn clear_range<S: Store>(
     touched: &mut bool,
 ) -> Result<(), Failed>
     requires range { (from ≤ to) × (to ≤ 2 ^ 40) }
-    ensures run { Runs file (TornFrom from (to - from) (file_of file (S.world store.old))) (S.world store.old) (S.world store.new) }
-    ensures untouched { touched.new ≡ false → (touched.old ≡ false) × Stays file (S.world store.old) (S.world store.new) }
+    ensures run { TearsOnly file from (to - from) (S.world store.old) (S.world store.new) }
+    ensures untouched { touched.new ≡ false
+        → (touched.old ≡ false) × Stays file (S.world store.old) (S.world store.new) }
     ensures zero { OnOk result (ReadsZero from to (file_of file (S.world store.new))) }
     ensures on_disk { OnOk result (touched.new ≡ true → IsKept (file_of file (S.world store.new))) }
-    ensures unwritten { touched.old ≡ false → (f : File) → file_of file (S.world store.old) ≡ Some f → to ≤ length f.bytes → AreZero from to f.bytes → touched.new ≡ false }
+    ensures unwritten { touched.old ≡ false → (f : File) → file_of file (S.world store.old) ≡ Some f
+        → to ≤ length f.bytes → AreZero from to f.bytes → touched.new ≡ false }
     ensures cause { HasCause file (S.world store.old) (S.world store.new) result }
 {
     let all = *touched;
@@ -157,7 +174,8 @@ fn clear_range<S: Store>(
     Ok(())
 }
 
-/// Makes a piece of a file, as long as the buffer, zeros: where `all`, without a look; else where it reads otherwise.
+/// Makes a piece of a file, as long as the buffer, zeros: where `all`, without a look; else where
+/// it reads otherwise.
 fn clear_piece<S: Store>(
     store: &mut S,
     file: u32,
@@ -168,10 +186,15 @@ fn clear_piece<S: Store>(
 ) -> Result<(), Failed>
     requires size { length piece.old ≤ 65536 }
     requires within { at + length piece.old ≤ 2 ^ 40 }
-    ensures run { Runs file (TornFrom at (length piece.old) (file_of file (S.world store.old))) (S.world store.old) (S.world store.new) }
-    ensures untouched { touched.new ≡ false → (touched.old ≡ false) × Stays file (S.world store.old) (S.world store.new) }
-    ensures zero { OnOk result ((from : ℕ) → from ≤ at → ReadsZero from at (file_of file (S.world store.old)) → ReadsZero from (at + length piece.old) (file_of file (S.world store.new))) }
-    ensures unwritten { all ≡ false → touched.old ≡ false → (f : File) → file_of file (S.world store.old) ≡ Some f → at + length piece.old ≤ length f.bytes → AreZero at (at + length piece.old) f.bytes → touched.new ≡ false }
+    ensures run { TearsOnly file at (length piece.old) (S.world store.old) (S.world store.new) }
+    ensures untouched { touched.new ≡ false
+        → (touched.old ≡ false) × Stays file (S.world store.old) (S.world store.new) }
+    ensures zero { OnOk result (ZerosGoOn at (length piece.old)
+        (file_of file (S.world store.old)) (file_of file (S.world store.new))) }
+    ensures unwritten { all ≡ false → touched.old ≡ false
+        → (f : File) → file_of file (S.world store.old) ≡ Some f
+        → at + length piece.old ≤ length f.bytes → AreZero at (at + length piece.old) f.bytes
+        → touched.new ≡ false }
     ensures cause { HasCause file (S.world store.old) (S.world store.new) result }
 {
     if !all && is_zero(store, file, at, piece)? {
@@ -181,24 +204,17 @@ fn clear_piece<S: Store>(
     write_zeros(store, file, at, piece.len())
 }
 
-/// Writes so many zeros.
-fn write_zeros<S: Store>(store: &mut S, file: u32, at: u64, size: usize) -> Result<(), Failed>
-    requires size { size ≤ 65536 }
-    requires within { at + size ≤ 2 ^ 40 }
-    ensures call { CallsOn file (S.world store.old) (S.world store.new) }
-    ensures torn { TornFrom at size (file_of file (S.world store.old)) (file_of file (S.world store.new)) }
-    ensures zero { OnOk result ((from : ℕ) → from ≤ at → ReadsZero from at (file_of file (S.world store.old)) → ReadsZero from (at + size) (file_of file (S.world store.new))) }
-    ensures cause { HasCause file (S.world store.old) (S.world store.new) result }
-{
-    store.write_at(file, at, &ZEROS[..size])
-}
-
-/// Whether a piece of a file, as long as the buffer, reads as zeros. What the file gives less than asked for counts as not zero.
+/// Whether a piece of a file, as long as the buffer, reads as zeros. What the file gives less than
+/// asked for counts as not zero.
 fn is_zero<S: Store>(store: &mut S, file: u32, at: u64, piece: &mut [u8]) -> Result<bool, Failed>
     ensures call { CallsOn file (S.world store.old) (S.world store.new) }
     ensures same { Stays file (S.world store.old) (S.world store.new) }
-    ensures zero { IfOk result (λ zero. IsTrue zero → ReadsZero at (at + length piece.old) (file_of file (S.world store.old))) }
-    ensures other { IfOk result (λ zero. (f : File) → file_of file (S.world store.old) ≡ Some f → at + length piece.old ≤ length f.bytes → AreZero at (at + length piece.old) f.bytes → IsTrue zero) }
+    ensures zero { IfOk result (λ zero. IsTrue zero
+        → ReadsZero at (at + length piece.old) (file_of file (S.world store.old))) }
+    ensures other { IfOk result (λ zero.
+        (f : File) → file_of file (S.world store.old) ≡ Some f
+        → at + length piece.old ≤ length f.bytes → AreZero at (at + length piece.old) f.bytes
+        → IsTrue zero) }
     ensures cause { HasCause file (S.world store.old) (S.world store.new) result }
 {
     let n = store.read_at(file, at, piece)?;
@@ -236,8 +252,11 @@ fn put_body<S: Store>(
 ) -> Result<(), Failed>
     requires head { length head.now ≡ 12 }
     requires within { place + 13 + length payload.now ≤ 2 ^ 40 }
-    ensures run { Runs file (TornFrom (place + 1) (12 + length payload.now) (file_of file (S.world store.old))) (S.world store.old) (S.world store.new) }
-    ensures done { OnOk result (file_of file (S.world store.new) ≡ option_map (λ f. kept (written (place + 13) payload.now (written (place + 1) head.now f))) (file_of file (S.world store.old))) }
+    ensures run { TearsOnly file (place + 1) (12 + length payload.now)
+        (S.world store.old) (S.world store.new) }
+    ensures done { OnOk result (file_of file (S.world store.new)
+        ≡ option_map (λ f. kept (written (place + 13) payload.now (written (place + 1) head.now f)))
+        (file_of file (S.world store.old))) }
     ensures cause { HasCause file (S.world store.old) (S.world store.new) result }
 {
     store.write_at(file, place + 1, head)?;

@@ -1,4 +1,3 @@
-mod Quotes
 mod Commas
 mod Lines
 mod Telling

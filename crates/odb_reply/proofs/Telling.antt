@@ -9,32 +9,32 @@ use Rattle.odb_model.specs.declared.reply.Head.{Head}
 use Rattle.odb_model.specs.declared.reply.Reply.{Reply}
 use Rattle.odb_model.specs.declared.reply.Reply.TheVariants.{Okay, Rows, Done, Committed, Ended, InDoubt, Character, Text, Number, Syntax, End, Long, Line, NoSession, NotYet, NoTransaction, InTransaction, Duplicate, TooManyWrites, Halted, Conflict, Full, Fault, Memory}
 use Rattle.odb_model.specs.Print.{line_of, values_text, row_line, refused_line, reply_text}
-use Rattle.odb_model.specs.Told.{Tells}
+use Rattle.odb_model.specs.Acknowledged.{Acknowledges}
 use Rattle.odb_model.proofs.Decimal.{decimal-one, no_lf-decimal}
-use Rattle.odb_model.proofs.Told.{Tells-front, Tells-append, told_words, other_words, line-ended, no_lf-append}
+use Rattle.odb_model.proofs.Told.{Acknowledges-front, Acknowledges-append, told_words, other_words, line-ended, no_lf-append}
 use Rattle.odb_reply.specs.Unbroken.{HasNoLf, IsUnbrokenRow, IsTellable}
 
 -- a line whose words begin with another byte than C tells of no commit
-untold : (head : Head) (first : ℕ) (words : List ℕ) (k : ℕ) → (first == 67) ≡ false → HasNoLf (first ∷ words) → Tells (line_of head (first ∷ words)) k → ⊥
+untold : (head : Head) (first : ℕ) (words : List ℕ) (k : ℕ) → (first == 67) ≡ false → HasNoLf (first ∷ words) → Acknowledges (line_of head (first ∷ words)) k → ⊥
 untold head first words k other none t =
     other_words first words k (λ same. let is : (first == 67) ≡ true = eq-eqb first 67 same in cc) (told_words head (first ∷ words) k none t)
 
-untold_refusal : (head : Head) (words : List ℕ) (k : ℕ) → HasNoLf words → Tells (refused_line head words) k → ⊥
+untold_refusal : (head : Head) (words : List ℕ) (k : ℕ) → HasNoLf words → Acknowledges (refused_line head words) k → ⊥
 untold_refusal head words k none t = untold head 82 (codes "EFUSED " ++ words) k refl none t
 
-untold_rows : (head : Head) (n k : ℕ) (rows : List (List Value)) → All IsUnbrokenRow rows → Tells (flat_map (row_line head) rows ++ line_of head (codes "ROWS " ++ decimal n)) k → ⊥
+untold_rows : (head : Head) (n k : ℕ) (rows : List (List Value)) → All IsUnbrokenRow rows → Acknowledges (flat_map (row_line head) rows ++ line_of head (codes "ROWS " ++ decimal n)) k → ⊥
 untold_rows head n k [] all t = untold head 82 (codes "OWS " ++ decimal n) k refl (no_lf-decimal n) t
 untold_rows head n k (values ∷ rows) all t =
     let words = codes "ROW " ++ values_text values in
     let last = line_of head (codes "ROWS " ++ decimal n) in
-    let joined : Tells (row_line head values ++ (flat_map (row_line head) rows ++ last)) k =
-    subst (λ (bytes : List ℕ). Tells bytes k) (append_assoc (row_line head values) (flat_map (row_line head) rows) last) t in
-    elim (Tells-append (row_line head values) (flat_map (row_line head) rows ++ last) k (line-ended head words) joined) as (λ w. ⊥) [
+    let joined : Acknowledges (row_line head values ++ (flat_map (row_line head) rows ++ last)) k =
+    subst (λ (bytes : List ℕ). Acknowledges bytes k) (append_assoc (row_line head values) (flat_map (row_line head) rows) last) t in
+    elim (Acknowledges-append (row_line head values) (flat_map (row_line head) rows ++ last) k (line-ended head words) joined) as (λ w. ⊥) [
       | inl here ↦ untold head 82 (codes "OW " ++ values_text values) k refl (All-head IsUnbrokenRow values rows all) here
       | inr there ↦ untold_rows head n k rows (All-tail IsUnbrokenRow values rows all) there
     ]
 
-told_reply : (head : Head) (reply : Reply) (k : ℕ) → IsTellable reply → Tells (reply_text head reply) k → reply ≡ Committed k
+told_reply : (head : Head) (reply : Reply) (k : ℕ) → IsTellable reply → Acknowledges (reply_text head reply) k → reply ≡ Committed k
 told_reply head (Committed j) k small t =
     let same : codes "COMMITTED " ++ decimal j ≡ codes "COMMITTED " ++ decimal k = told_words head (codes "COMMITTED " ++ decimal j) k (no_lf-decimal j) t in
     ap Committed (decimal-one j k small (append_cancel_left (codes "COMMITTED ") (decimal j) (decimal k) same))
@@ -65,6 +65,6 @@ told_reply head (Fault f) k p t = absurd (untold_refusal head (codes "FAULT " ++
 told_reply head Memory k p t = absurd (untold_refusal head (codes "MEMORY") k refl t)
 
 -- a front of a reply's text tells of no other commit than the reply's own
-pub told_front : (head : Head) (reply : Reply) (bytes front rest : List ℕ) (k : ℕ) → IsTellable reply → bytes ≡ reply_text head reply → bytes ≡ front ++ rest → Tells front k → reply ≡ Committed k
+pub told_front : (head : Head) (reply : Reply) (bytes front rest : List ℕ) (k : ℕ) → IsTellable reply → bytes ≡ reply_text head reply → bytes ≡ front ++ rest → Acknowledges front k → reply ≡ Committed k
 told_front head reply bytes front rest k tellable text cut t =
-    told_reply head reply k tellable (subst (λ (x : List ℕ). Tells x k) (sym cut ∙ text) (Tells-front front rest k t))
+    told_reply head reply k tellable (subst (λ (x : List ℕ). Acknowledges x k) (sym cut ∙ text) (Acknowledges-front front rest k t))

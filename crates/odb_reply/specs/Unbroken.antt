@@ -17,7 +17,8 @@ IsUnbroken v = HasNoLf (value_text v)
 abbrev pub IsUnbrokenRow : List Value → Type 0
 IsUnbrokenRow values = HasNoLf (values_text values)
 
--- the rows of the reply are written without an LF inside, and the number of a commit is one of 64 bits
+-- the rows of the reply are written without an LF inside, and the number of a commit is one of 64
+-- bits
 abbrev pub IsTellable : Reply → Type 0
 IsTellable (Rows rows) = All IsUnbrokenRow rows
 IsTellable (Committed k) = k < 2 ^ 64

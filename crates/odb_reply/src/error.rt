@@ -1,3 +1,4 @@
+//! Why a reply is not printed.
 ghost use Rattle.std.specs.Prelude.{◌≡◌};
 ghost use Rattle.odb_reply.specs.declared.error.ReplyError.TheVariants.{NoMemory};
 

@@ -1,7 +1,7 @@
 //! The bytes that answer a line of a script.
 //!
-//! [`print_reply`] gives what `reply_text` of `odb_model` says, byte by byte: a line for each row of a
-//! SELECT, and one line that says how the statement ended.
+//! [`print_reply`] gives what `reply_text` of `odb_model` says, byte by byte: a line for each row
+//! of a SELECT, and one line that says how the statement ended.
 #![tactic(auto)]
 
 mod error;
@@ -10,6 +10,3 @@ mod values;
 
 pub use error::ReplyError;
 pub use print::print_reply;
-
-#[cfg(test)]
-mod tests;

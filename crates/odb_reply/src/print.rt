@@ -1,6 +1,8 @@
-ghost use Rattle.std.specs.Prelude.{◌≡◌, ℕ, List, ◌++◌, length, flat_map, codes, string_bytes, decimal, All, IfOk, OnOk};
-ghost use Rattle.odb_model.specs.Told.{Tells};
+//! The bytes of a reply, a line at a time.
+ghost use Rattle.std.specs.Prelude.{◌≡◌, ◌++◌, decimal, All, IfOk, OnOk};
+ghost use Rattle.odb_lex.specs.Written.{Appends};
 ghost use Rattle.odb_model.specs.Print.{head_text, line_of, row_line, reply_text};
+ghost use Rattle.odb_reply.specs.Telling.{TellsAlone};
 ghost use Rattle.odb_reply.specs.Unbroken.{IsUnbrokenRow, IsTellable};
 
 use crate::ReplyError;
@@ -11,13 +13,13 @@ use std::alloc::{AllocError, Global};
 
 /// The bytes of a reply under its head, each line ended by LF.
 ///
-/// A SELECT's rows come first, and then how many they are. Where a front of the text is said, a whole
-/// line of the form `s COMMITTED k` stands in it only where the reply is that commit, since values hold
-/// no LF. The reply is only read, and one buffer grows to the length of the text. The error is want of
-/// memory alone.
+/// A SELECT's rows come first, and then how many they are. Where a front of the text is said, a
+/// whole line of the form `s COMMITTED k` stands in it only where the reply is that commit, since
+/// values hold no LF. The reply is only read, and one buffer grows to the length of the text. The
+/// error is want of memory alone.
 pub fn print_reply(alloc: Global, head: Head, reply: &Reply) -> Result<Bytes, ReplyError>
     ensures text { IfOk result (λ bytes. bytes ≡ reply_text head reply.now) }
-    ensures tells { IfOk result (λ bytes. (front rest : List ℕ) (k : ℕ) → bytes ≡ front ++ rest → Tells front k → reply.now ≡ Reply.Committed k) }
+    ensures tells { IfOk result (λ bytes. TellsAlone bytes reply.now) }
 {
     let mut out = String::new(alloc);
     put_reply(&mut out, head, reply)?;
@@ -25,8 +27,7 @@ pub fn print_reply(alloc: Global, head: Head, reply: &Reply) -> Result<Bytes, Re
 }
 
 fn put_reply(out: &mut String, head: Head, reply: &Reply) -> Result<(), AllocError>
-    ensures text { OnOk result (string_bytes out.new
-        ≡ string_bytes out.old ++ reply_text head reply.now) }
+    ensures text { Appends result out.old out.new (reply_text head reply.now) }
     ensures tellable { OnOk result (IsTellable reply.now) }
 {
     match reply {
@@ -59,9 +60,7 @@ fn put_reply(out: &mut String, head: Head, reply: &Reply) -> Result<(), AllocErr
 
 /// A line for each row, and then how many rows there are.
 fn put_rows(out: &mut String, head: Head, rows: &[Values]) -> Result<(), AllocError>
-    ensures text { OnOk result (string_bytes out.new
-        ≡ string_bytes out.old ++ flat_map (row_line head) rows.now
-        ++ line_of head (codes "ROWS " ++ decimal (length rows.now))) }
+    ensures text { Appends result out.old out.new (reply_text head (Reply.Rows rows.now)) }
     ensures unbroken { OnOk result (All IsUnbrokenRow rows.now) }
 {
     for row in rows {
@@ -71,7 +70,7 @@ fn put_rows(out: &mut String, head: Head, rows: &[Values]) -> Result<(), AllocEr
 }
 
 fn put_row(out: &mut String, head: Head, row: &Values) -> Result<(), AllocError>
-    ensures text { OnOk result (string_bytes out.new ≡ string_bytes out.old ++ row_line head row.now) }
+    ensures text { Appends result out.old out.new (row_line head row.now) }
     ensures unbroken { OnOk result (IsUnbrokenRow row.now) }
 {
     put_head(out, head)?;
@@ -81,8 +80,7 @@ fn put_row(out: &mut String, head: Head, row: &Values) -> Result<(), AllocError>
 }
 
 fn put_number_line(out: &mut String, head: Head, words: &str, number: u64) -> Result<(), AllocError>
-    ensures { OnOk result (string_bytes out.new
-        ≡ string_bytes out.old ++ line_of head (words.now ++ decimal number)) }
+    ensures { Appends result out.old out.new (line_of head (words.now ++ decimal number)) }
 {
     put_head(out, head)?;
     writeln!(out, " {words}{number}")
@@ -90,22 +88,21 @@ fn put_number_line(out: &mut String, head: Head, words: &str, number: u64) -> Re
 
 /// How many bytes a record needs, and how many are left.
 fn put_full_line(out: &mut String, head: Head, need: u64, room: u64) -> Result<(), AllocError>
-    ensures { OnOk result (string_bytes out.new
-        ≡ string_bytes out.old ++ line_of head (codes "REFUSED FULL " ++ decimal need ++ codes " " ++ decimal room)) }
+    ensures { Appends result out.old out.new (reply_text head (Reply.Full need room)) }
 {
     put_head(out, head)?;
     writeln!(out, " REFUSED FULL {need} {room}")
 }
 
 fn put_line(out: &mut String, head: Head, words: &str) -> Result<(), AllocError>
-    ensures { OnOk result (string_bytes out.new ≡ string_bytes out.old ++ line_of head words.now) }
+    ensures { Appends result out.old out.new (line_of head words.now) }
 {
     put_head(out, head)?;
     writeln!(out, " {words}")
 }
 
 fn put_head(out: &mut String, head: Head) -> Result<(), AllocError>
-    ensures { OnOk result (string_bytes out.new ≡ string_bytes out.old ++ head_text head) }
+    ensures { Appends result out.old out.new (head_text head) }
 {
     match head {
         Head::Session(session) => write!(out, "{session}"),

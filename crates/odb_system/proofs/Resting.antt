@@ -1,6 +1,6 @@
 -- What steps that make no call of the store leave of a system and of its file.
-use Rattle.std.proofs.Common.{◌≡◌, ◌≢◌, ℕ, ◌<◌, zero, suc, List, [], ◌∷◌, ◌++◌, length, replicate, Option, Some, None, refl, sym, ap, subst, ◌∙◌, inl, arith}
-use Rattle.std.specs.Prelude.{◌⊎◌, slice_get, slice_index_or, unwrap_or}
+use Rattle.std.proofs.Common.{◌≡◌, ◌≢◌, true, ℕ, ◌<◌, zero, suc, List, [], ◌∷◌, ◌++◌, length, replicate, Option, Some, None, refl, sym, ap, subst, ◌∙◌, inl, arith}
+use Rattle.std.specs.Prelude.{◌⊎◌, slice_get, slice_set, slice_index_or, unwrap_or}
 use Rattle.std.specs.List.{All}
 use Rattle.std.proofs.lemmas.List.{length-set}
 use Rattle.std.proofs.lemmas.List.Elements.{All-set, All-replicate}
@@ -15,14 +15,24 @@ use Rattle.odb_model.specs.declared.reply.Reply.{Reply}
 use Rattle.odb_model.specs.declared.reply.Reply.TheVariants.{Okay, InTransaction, Ended, NoTransaction, Conflict, Memory}
 use Rattle.odb_model.specs.declared.statement.Statement.{Statement}
 use Rattle.odb_model.specs.State.{after_writes, replay}
-use Rattle.odb_model.specs.Meaning.{meaning}
+use Rattle.odb_model.specs.Meaning.{meaning, is_built}
 use Rattle.odb_model.specs.Reads.{reads}
-use Rattle.odb_model.specs.Transaction.{places, net, first_conflict}
+use Rattle.odb_model.specs.Transaction.{table_keys, net, first_conflict, read_at}
 use Rattle.odb_model.specs.Machine.{with_doubt}
+use Rattle.odb_plain.specs.declared.form.Form.{Form}
+use Rattle.odb_plain.specs.declared.form.Form.TheVariants as form
+use Rattle.odb_plain.specs.Form.{statement_of}
 use Rattle.odb_transdb.specs.Opened.{Holds}
 use Rattle.odb_transdb.specs.Standing.{Db}
-use Rattle.odb_system.specs.Held.{Open, Held, IsOpen, IsHeld, Begins, none_open, with_open, at_number, meaning_in, grown, HeldStarts, HeldExecutes, HeldSeals, HeldDecidesBy, HeldCommits}
-use Rattle.odb_system.specs.Durable.{perhaps_of, IsDurable, IsDurableBy, HoldsThroughout}
+use Rattle.odb_system.specs.Held.{Open, Held, IsOpen, IsHeld, Begins, none_open, session_at, with_open, meaning_in, grown, HeldStarts, HeldExecutes, HeldSeals, HeldDecidesBy, HeldCommits}
+use Rattle.odb_system.specs.Durable.{history_or_more_of, IsDurable, IsDurableBy, HoldsThroughout}
+
+-- each form is built
+pub built_of : (f : Form) → is_built (statement_of f) ≡ true
+built_of form.Start = refl
+built_of form.Commit = refl
+built_of (form.Insert key value) = refl
+built_of (form.KeysAbove n) = refl
 
 -- a system that begins
 pub held_first : (h : List Entry) (xs : List (Option Open)) (db : Db) → Begins db h → xs ≡ replicate 64 none_open
@@ -64,7 +74,7 @@ log_as held after is same log = subst (SameLog held) (sym same) log
 
 pub starts_log : (held : Held) (at : ℕ) (t : Option Open) (reply : Reply) (after : Held) → HeldStarts held at t reply after → SameLog held after
 starts_log held at None Okay after step =
-    log_as held after (with_open held at (Some (record { reads = []; own = [] }))) step (record { history = refl; transdb = refl; in_doubt = refl })
+    log_as held after (with_open held at (Some (record { reads = []; write_set = [] }))) step (record { history = refl; transdb = refl; in_doubt = refl })
 starts_log held at (Some t) InTransaction after step = log_as held after held step (record { history = refl; transdb = refl; in_doubt = refl })
 starts_log held at None reply after step = absurd step
 starts_log held at (Some t) reply after step = absurd step
@@ -84,7 +94,7 @@ holds_by (Some e) held file settled durable = durable
 -- at rest each image is as throughout a step that changes nothing
 pub holds_resting : (held after : Held) (w : World) → SameLog held after → IsDurable held (file_of 0 w) → Runs 0 (HoldsThroughout held after) w w
 holds_resting held after w same durable =
-    let more : perhaps_of held ≡ perhaps_of after = λ i. with_doubt (sym same.history i) (sym same.in_doubt i) in
+    let more : history_or_more_of held ≡ history_or_more_of after = λ i. with_doubt (sym same.history i) (sym same.in_doubt i) in
     begins 0 (HoldsThroughout held after) w
     (subst (λ (es : List Entry). EachImage (λ image. Holds held.transdb.header held.history image ⊎ Holds held.transdb.header es image) (file_of 0 w)) more
     (holds_by held.in_doubt held (file_of 0 w) refl durable))
@@ -100,22 +110,36 @@ durable_resting held after file same durable =
     subst (λ (x : Held). IsDurable x file) is (durable_by held.in_doubt held after.sessions file durable)
 
 -- the transaction after a statement, from what the plain program answers
-pub grown_is : (held : Held) (st : Statement) (t new : Open) (h : List Entry) (own : List Write) (number : ℕ) (outcome : Outcome) → h ≡ held.history → own ≡ t.own
-    → number ≡ length held.history → outcome.reads ≡ reads st (replay h) → outcome.writes ≡ (meaning st (after_writes (replay h) own) (places own)).writes
-    → new ≡ record { reads = t.reads ++ at_number number outcome.reads; own = t.own ++ outcome.writes } → new ≡ grown held st t
-grown_is held st t new h own number outcome h_is own_is number_is reads_is writes_is new_is =
+pub grown_is : (held : Held) (st : Statement) (t new : Open) (h : List Entry) (write_set : List Write) (number : ℕ) (outcome : Outcome) → h ≡ held.history → write_set ≡ t.write_set
+    → number ≡ length held.history → outcome.reads ≡ reads st (replay h) → outcome.writes ≡ (meaning st (after_writes (replay h) write_set) (table_keys write_set)).writes
+    → new ≡ record { reads = t.reads ++ read_at number outcome.reads; write_set = t.write_set ++ outcome.writes } → new ≡ grown held st t
+grown_is held st t new h write_set number outcome h_is write_set_is number_is reads_is writes_is new_is =
     let rs : outcome.reads ≡ reads st (replay held.history) = reads_is ∙ ap (λ h. reads st (replay h)) h_is in
     let ws : outcome.writes ≡ (meaning_in held st t).writes =
-    writes_is ∙ ap (λ h. (meaning st (after_writes (replay h) own) (places own)).writes) h_is ∙ ap (λ own. (meaning st (after_writes (replay held.history) own) (places own)).writes) own_is in
-    new_is ∙ λ i. record { reads = t.reads ++ at_number (number_is i) (rs i); own = t.own ++ ws i }
+    writes_is ∙ ap (λ h. (meaning st (after_writes (replay h) write_set) (table_keys write_set)).writes) h_is ∙ ap (λ write_set. (meaning st (after_writes (replay held.history) write_set) (table_keys write_set)).writes) write_set_is in
+    new_is ∙ λ i. record { reads = t.reads ++ read_at (number_is i) (rs i); write_set = t.write_set ++ ws i }
 
-pub reply_is : (held : Held) (st : Statement) (t : Open) (h : List Entry) (own : List Write) (reply : Reply) → h ≡ held.history → own ≡ t.own
-    → reply ≡ (meaning st (after_writes (replay h) own) (places own)).reply → reply ≡ (meaning_in held st t).reply
-reply_is held st t h own reply h_is own_is is =
-    is ∙ ap (λ h. (meaning st (after_writes (replay h) own) (places own)).reply) h_is ∙ ap (λ own. (meaning st (after_writes (replay held.history) own) (places own)).reply) own_is
+pub reply_is : (held : Held) (st : Statement) (t : Open) (h : List Entry) (write_set : List Write) (reply : Reply) → h ≡ held.history → write_set ≡ t.write_set
+    → reply ≡ (meaning st (after_writes (replay h) write_set) (table_keys write_set)).reply → reply ≡ (meaning_in held st t).reply
+reply_is held st t h write_set reply h_is write_set_is is =
+    is ∙ ap (λ h. (meaning st (after_writes (replay h) write_set) (table_keys write_set)).reply) h_is ∙ ap (λ write_set. (meaning st (after_writes (replay held.history) write_set) (table_keys write_set)).reply) write_set_is
+
+-- an item put where it stands
+set_same : {A : Type 0} (xs : List A) (i : ℕ) (x : A) → x ≡ slice_index_or xs i x → slice_set xs i x ≡ xs
+set_same [] i x is = refl
+set_same (y ∷ xs) zero x is = ap (λ z. z ∷ xs) is
+set_same (y ∷ xs) (suc i) x is = ap (λ zs. y ∷ zs) (set_same xs i x is)
+
+-- SELECT and INSERT without a transaction
+pub executes_none : (held : Held) (at : ℕ) (st : Statement) (x : Option Open) → at < length held.sessions → x ≡ slice_index_or held.sessions at x → x ≡ None
+    → HeldExecutes held at st (session_at held at) NoTransaction (record held { sessions = slice_set held.sessions at x })
+executes_none held at st x within is none =
+    let idle : session_at held at ≡ None = session_here held.sessions at x within is ∙ none in
+    let same : record held { sessions = slice_set held.sessions at x } ≡ held = ap (λ xs. record held { sessions = xs }) (set_same held.sessions at x is) in
+    subst (λ (o : Option Open). HeldExecutes held at st o NoTransaction (record held { sessions = slice_set held.sessions at x })) (sym idle) same
 
 commits_by : (d : Option Entry) (held : Held) (at : ℕ) (t : Open) (reply : Reply) (after : Held) → d ≡ None → first_conflict t.reads held.history ≡ None
-    → net (replay held.history) t.own ≢ [] → HeldSeals held at (net (replay held.history) t.own) reply after → HeldDecidesBy d held at t reply after
+    → net (replay held.history) t.write_set ≢ [] → HeldSeals held at (net (replay held.history) t.write_set) reply after → HeldDecidesBy d held at t reply after
 commits_by (Some e) held at t reply after settled none some seals = cc
 commits_by None held at t (Conflict j) after settled none some seals = absurd seals
 commits_by None held at t (Ended p) after settled none some seals = absurd seals
@@ -123,6 +147,6 @@ commits_by None held at t reply after settled none some seals = (none, some, sea
 
 -- COMMIT of a transaction against which nothing stands
 pub commits : (held : Held) (at : ℕ) (t : Open) (reply : Reply) (after : Held) → held.in_doubt ≡ None → first_conflict t.reads held.history ≡ None
-    → net (replay held.history) t.own ≢ [] → HeldSeals held at (net (replay held.history) t.own) reply after → HeldCommits held at (Some t) reply after
+    → net (replay held.history) t.write_set ≢ [] → HeldSeals held at (net (replay held.history) t.write_set) reply after → HeldCommits held at (Some t) reply after
 commits held at t Memory after settled none some seals = seals
 commits held at t reply after settled none some seals = commits_by held.in_doubt held at t reply after settled none some seals

@@ -24,11 +24,11 @@ use Rattle.odb_transdb.specs.Opened.{Holds, entries_in}
 use Rattle.odb_transdb.specs.Standing.{Db, IsPlaced, IsAdvanced, IsSettledIn, Stands, room_of}
 use Rattle.odb_transdb.specs.Answers.{IsForceAnswer, HoldsAll, HoldsAllOrMore}
 use Rattle.odb_system.specs.Held.{Open, Held, IsOpen, none_open, Begins, IsAsDoubted, IsHeld}
-use Rattle.odb_system.specs.Durable.{perhaps_of, IsDurable, IsDurableBy, HoldsEither, HoldsThroughout}
-use Rattle.odb_system.specs.Room.{room_left}
+use Rattle.odb_system.specs.Durable.{history_or_more_of, IsDurable, IsDurableBy, HoldsEither, HoldsThroughout}
+use Rattle.odb_system.specs.Room.{HasRoomLeft}
 
 -- the room of a log is what the records of the history leave of the active side
-pub room_agrees : (held : Held) → Begins held.transdb held.history → room_of held.transdb ≡ room_left held
+pub room_agrees : (held : Held) → Begins held.transdb held.history → HasRoomLeft held
 room_agrees held begins =
     let db = held.transdb in
     let end : db.active.end ≡ db.active.start + side_size db.header = begins.placed.side.end ∙ ap (λ n. n + side_size db.header) (sym begins.placed.side.start) in
@@ -110,7 +110,7 @@ along_history P h old new same run = record {
 }
 
 -- a step that may add an entry holds the history throughout, or the one with it
-pub holds_more : (held after : Held) (e : Entry) (old new : World) → held.in_doubt ≡ None → IsDurable held (file_of 0 old) → perhaps_of after ≡ held.history ++ e ∷ []
+pub holds_more : (held after : Held) (e : Entry) (old new : World) → held.in_doubt ≡ None → IsDurable held (file_of 0 old) → history_or_more_of after ≡ held.history ++ e ∷ []
     → Runs 0 (HoldsAllOrMore held.transdb (entries_in (file_of 0 old)) e) old new → Runs 0 (HoldsThroughout held after) old new
 holds_more held after e old new settled durable more run =
     subst (λ (es : List Entry). Runs 0 (EachImage (λ image. Holds held.transdb.header held.history image ⊎ Holds held.transdb.header es image)) old new) (sym more)
@@ -167,8 +167,8 @@ durable_either held after e old new some same header run =
     either : (file : Option File) → HoldsThroughout held after file → HoldsEither after file
     either None holds = tt
     either (Some f) holds = λ image is.
-        subst (λ (es : List Entry). Holds after.transdb.header es image ⊎ Holds after.transdb.header (perhaps_of after) image) (sym same)
-        (subst (λ (h : Header). Holds h held.history image ⊎ Holds h (perhaps_of after) image) (sym header) (holds image is))
+        subst (λ (es : List Entry). Holds after.transdb.header es image ⊎ Holds after.transdb.header (history_or_more_of after) image) (sym same)
+        (subst (λ (h : Header). Holds h held.history image ⊎ Holds h (history_or_more_of after) image) (sym header) (holds image is))
 
 -- the session at a place becomes idle
 pub idle_held : (xs : List (Option Open)) (at : ℕ) → length xs ≡ 64 → All IsOpen xs → (length (slice_set xs at none_open) ≡ 64) × All IsOpen (slice_set xs at none_open)

@@ -1,3 +1,4 @@
+//! Why a system could not be started.
 ghost use Rattle.odb_system.specs.declared.error.SystemError.TheVariants.{NoMemory};
 ghost use Rattle.std.specs.Prelude.{◌≡◌};
 

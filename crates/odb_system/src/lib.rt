@@ -1,8 +1,10 @@
-//! The machine that answers statements: one history, the log of commits that keeps it, and 64 sessions, over the plain program.
+//! The machine that answers statements: one history, the log of commits that keeps it, and 64
+//! sessions, over the plain program.
 //!
-//! A transaction takes no lock. It collects the ranges that it reads and the rows that it writes, and its COMMIT asks
-//! whether an entry of the history that came after a read wrote a row of its range. Where none did and writes are left, they
-//! become the next entry, whose record is on the disk before the COMMIT is answered.
+//! A transaction takes no lock. It collects the ranges that it reads and the rows that it writes,
+//! and its COMMIT asks whether an entry of the history that came after a read wrote a row of its
+//! range. Where none did and writes are left, they become the next entry, whose record is on the
+//! disk before the COMMIT is answered.
 #![tactic(auto)]
 
 mod error;

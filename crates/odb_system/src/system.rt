@@ -1,16 +1,17 @@
+//! The machine: a history with the log that has it, and the sessions; each statement is one step.
 ghost use Rattle.std.specs.Prelude.{◌≡◌, ◌<◌, replicate, None, IfOk, OnOk, OnErr, IsTrue};
 ghost use Rattle.odb_device.specs.World.{file_of};
 ghost use Rattle.odb_device.specs.Moments.{Runs};
 ghost use Rattle.odb_system.specs.Held.{none_open};
-ghost use Rattle.odb_model.specs.Meaning.{is_built};
+ghost use Rattle.odb_plain.specs.Form.{statement_of};
 ghost use Rattle.odb_model.specs.Script.{IsSession};
 
 use crate::SystemError;
 use crate::transaction::Transaction;
 use odb_codec::encode_entry;
 use odb_device::Host;
-use odb_model::{Entries, Entry, Event, Outcome, Reply, Statement, Writes};
-use odb_plain::{execute, first_conflict, is_built, net_writes};
+use odb_model::{Entries, Entry, Event, Outcome, Reply, SESSIONS, Statement, Writes};
+use odb_plain::{Form, execute_form, first_conflict, form_of, net_writes};
 use odb_transdb::{Transdb, TransdbError};
 use odb_values::List;
 use std::alloc::{AllocError, Global};
@@ -32,9 +33,19 @@ impl Model for System {
 
     ghost Value = { Held };
 
-    ghost view = { λ a. record { history = a.history.items; sessions = a.sessions.items; transdb = a.transdb; in_doubt = a.in_doubt } };
+    ghost view = { λ a. record {
+      history = a.history.items;
+      sessions = a.sessions.items;
+      transdb = a.transdb;
+      in_doubt = a.in_doubt;
+    } };
 
-    ghost invariant = { λ a. IsHeld (record { history = a.history.items; sessions = a.sessions.items; transdb = a.transdb; in_doubt = a.in_doubt }) };
+    ghost invariant = { λ a. IsHeld (record {
+      history = a.history.items;
+      sessions = a.sessions.items;
+      transdb = a.transdb;
+      in_doubt = a.in_doubt;
+    }) };
 }
 
 impl System {
@@ -44,11 +55,14 @@ impl System {
     ghost use Rattle.odb_system.specs.Durable.{IsDurable, HoldsThroughout, Risen, FaultRose};
     ghost use Rattle.odb_system.specs.Room.{AgreesOnRoom};
 
-    /// The machine that begins with these entries, all that the log holds; all sessions are idle. It makes no call of a store.
+    /// The machine that begins with these entries, all that the log holds; all sessions are idle.
+    /// It makes no call of a store.
     pub fn start(alloc: Global, transdb: Transdb, entries: Entries) -> Result<System, SystemError>
         requires { Begins transdb entries }
-        ensures stands { IfOk result (λ system. StandsFor system (first_machine (side_of transdb.header) entries)) }
-        ensures history { IfOk result (λ system. (system.history ≡ entries) × (system.transdb ≡ transdb)) }
+        ensures stands { IfOk result
+            (λ system. StandsFor system (first_machine (side_of transdb.header) entries)) }
+        ensures history { IfOk result
+            (λ system. (system.history ≡ entries) × (system.transdb ≡ transdb)) }
     {
         Ok(System {
             history: entries.into_list(),
@@ -58,17 +72,20 @@ impl System {
         })
     }
 
-    /// One step of the machine: the reply to a statement of a session, or to a step of upkeep, none of which is built. Want of memory is
-    /// the reply `Memory`.
+    /// One step of the machine: the reply to a statement of a session, or to a step of upkeep, none
+    /// of which is built. Want of memory is the reply `Memory`.
     ///
-    /// A COMMIT that leaves writes forces its record: two syncs and three writes of file 0 where the log's tail is clear. At each
-    /// moment a crash leaves the history before the step, or the one after it. No other statement makes a call of the host. A
-    /// SELECT or an INSERT goes over the whole history once, a COMMIT over the entries since the transaction's first read.
+    /// A COMMIT that leaves writes forces its record: two syncs and three writes of file 0 where
+    /// the log's tail is clear. At each moment a crash leaves the history before the step, or the
+    /// one after it. No other statement makes a call of the host. A SELECT or an INSERT goes over
+    /// the whole history once, a COMMIT over the entries since the transaction's first read.
     pub fn step<H: Host>(&mut self, alloc: Global, host: &mut H, event: &Event) -> Reply
         requires session { IsOfSession event.now }
         requires durable { IsDurable self.old (file_of 0 (H.world host.old)) }
-        ensures step { (m : Machine) → StandsFor self.old m → Follows (Risen (H.world host.old) (H.world host.new)) m event.now result self.new }
-        ensures run { Runs 0 (HoldsThroughout self.old self.new) (H.world host.old) (H.world host.new) }
+        ensures step { (m : Machine) → StandsFor self.old m
+            → Follows (Risen (H.world host.old) (H.world host.new)) m event.now result self.new }
+        ensures run { Runs 0 (HoldsThroughout self.old self.new)
+            (H.world host.old) (H.world host.new) }
         ensures durable { IsDurable self.new (file_of 0 (H.world host.new)) }
         ensures same { self.new.transdb.header ≡ self.old.transdb.header }
     {
@@ -88,47 +105,41 @@ impl System {
     ) -> Reply
         requires session { IsSession session }
         requires durable { IsDurable self.old (file_of 0 (H.world host.old)) }
-        ensures step { (m : Machine) → StandsFor self.old m → Follows (Risen (H.world host.old) (H.world host.new)) m (Session session statement.now) result self.new }
-        ensures run { Runs 0 (HoldsThroughout self.old self.new) (H.world host.old) (H.world host.new) }
+        ensures step { (m : Machine) → StandsFor self.old m
+            → Follows (Risen (H.world host.old) (H.world host.new)) m
+            (Session session statement.now) result self.new }
+        ensures run { Runs 0 (HoldsThroughout self.old self.new)
+            (H.world host.old) (H.world host.new) }
         ensures durable { IsDurable self.new (file_of 0 (H.world host.new)) }
         ensures same { self.new.transdb.header ≡ self.old.transdb.header }
     {
-        if !is_built(statement) {
-            return Reply::NotYet;
+        match form_of(statement) {
+            None => Reply::NotYet,
+            Some(form) => self.run(alloc, host, session as usize - 1, form),
         }
-        self.run(alloc, host, session as usize - 1, statement)
     }
 
     /// A statement of the session at this place.
-    fn run<H: Host>(
-        &mut self,
-        alloc: Global,
-        host: &mut H,
-        at: usize,
-        statement: &Statement,
-    ) -> Reply
-        requires place { at < 64 }
-        requires built { IsTrue (is_built statement.now) }
+    fn run<H: Host>(&mut self, alloc: Global, host: &mut H, at: usize, form: Form) -> Reply
+        requires place { at < SESSIONS }
         requires durable { IsDurable self.old (file_of 0 (H.world host.old)) }
-        ensures step { HeldRuns self.old at statement.now result self.new }
+        ensures step { HeldRuns self.old at (statement_of form) result self.new }
         ensures room { AgreesOnRoom result self.old }
         ensures fault { FaultRose result (H.world host.old) (H.world host.new) }
-        ensures run { Runs 0 (HoldsThroughout self.old self.new) (H.world host.old) (H.world host.new) }
+        ensures run { Runs 0 (HoldsThroughout self.old self.new)
+            (H.world host.old) (H.world host.new) }
         ensures durable { IsDurable self.new (file_of 0 (H.world host.new)) }
         ensures same { self.new.transdb.header ≡ self.old.transdb.header }
     {
-        match statement {
-            Statement::Start => self.start_transaction(alloc, at),
-            Statement::Commit => self.commit(alloc, host, at),
-            Statement::Select { .. } | Statement::Insert { .. } => {
-                self.execute(alloc, at, statement)
-            }
-            _ => Reply::NotYet,
+        match form {
+            Form::Start => self.start_transaction(alloc, at),
+            Form::Commit => self.commit(alloc, host, at),
+            Form::Insert { .. } | Form::KeysAbove(_) => self.execute(alloc, at, form),
         }
     }
 
     fn start_transaction(&mut self, alloc: Global, at: usize) -> Reply
-        requires { at < 64 }
+        requires { at < SESSIONS }
         ensures { HeldStarts self.old at (session_at self.old at) result self.new }
     {
         if self.sessions[at].is_some() {
@@ -138,20 +149,17 @@ impl System {
         Reply::Okay
     }
 
-    fn execute(&mut self, alloc: Global, at: usize, statement: &Statement) -> Reply
-        requires place { at < 64 }
-        requires built { IsTrue (is_built statement.now) }
-        ensures { HeldExecutes self.old at statement.now (session_at self.old at) result self.new }
+    fn execute(&mut self, alloc: Global, at: usize, form: Form) -> Reply
+        requires { at < SESSIONS }
+        ensures { HeldExecutes self.old at (statement_of form) (session_at self.old at)
+            result self.new }
     {
-        if self.sessions[at].is_none() {
-            return Reply::NoTransaction;
-        }
         let number = self.history.len() as u64;
         let Some(transaction) = &mut self.sessions[at] else {
             return Reply::NoTransaction;
         };
-        let Ok(outcome) = execute(alloc, statement, self.history.as_slice(), transaction.own())
-        else {
+        let history = self.history.as_slice();
+        let Ok(outcome) = execute_form(alloc, form, history, transaction.write_set()) else {
             return Reply::Memory;
         };
         let Outcome {
@@ -166,18 +174,16 @@ impl System {
     }
 
     fn commit<H: Host>(&mut self, alloc: Global, host: &mut H, at: usize) -> Reply
-        requires place { at < 64 }
+        requires place { at < SESSIONS }
         requires durable { IsDurable self.old (file_of 0 (H.world host.old)) }
         ensures step { HeldCommits self.old at (session_at self.old at) result self.new }
         ensures room { AgreesOnRoom result self.old }
         ensures fault { FaultRose result (H.world host.old) (H.world host.new) }
-        ensures run { Runs 0 (HoldsThroughout self.old self.new) (H.world host.old) (H.world host.new) }
+        ensures run { Runs 0 (HoldsThroughout self.old self.new)
+            (H.world host.old) (H.world host.new) }
         ensures durable { IsDurable self.new (file_of 0 (H.world host.new)) }
         ensures same { self.new.transdb.header ≡ self.old.transdb.header }
     {
-        if self.sessions[at].is_none() {
-            return Reply::NoTransaction;
-        }
         let number = self.history.len() as u64;
         let Some(transaction) = &self.sessions[at] else {
             return Reply::NoTransaction;
@@ -189,7 +195,7 @@ impl System {
             self.sessions[at] = None;
             return Reply::Conflict(later);
         }
-        let Ok(writes) = net_writes(alloc, self.history.as_slice(), transaction.own()) else {
+        let Ok(writes) = net_writes(alloc, self.history.as_slice(), transaction.write_set()) else {
             return Reply::Memory;
         };
         if writes.is_empty() {
@@ -199,18 +205,21 @@ impl System {
         self.seal(alloc, host, at, writes)
     }
 
-    /// Forces an entry of these writes, of the session at this place: what COMMIT answers where nothing else stands against it.
+    /// Forces an entry of these writes, of the session at this place: what COMMIT answers where
+    /// nothing else stands against it.
     ///
-    /// All memory is taken before a byte is written, so a commit that was begun can't fail for want of it.
+    /// All memory is taken before a byte is written, so a commit that was begun can't fail for want
+    /// of it.
     fn seal<H: Host>(&mut self, alloc: Global, host: &mut H, at: usize, writes: Writes) -> Reply
-        requires place { at < 64 }
+        requires place { at < SESSIONS }
         requires settled { self.old.in_doubt ≡ None }
         requires writes { CanSeal self.old writes }
         requires durable { IsDurable self.old (file_of 0 (H.world host.old)) }
         ensures step { HeldSeals self.old at writes result self.new }
         ensures room { AgreesOnRoom result self.old }
         ensures fault { FaultRose result (H.world host.old) (H.world host.new) }
-        ensures run { Runs 0 (HoldsThroughout self.old self.new) (H.world host.old) (H.world host.new) }
+        ensures run { Runs 0 (HoldsThroughout self.old self.new)
+            (H.world host.old) (H.world host.new) }
         ensures durable { IsDurable self.new (file_of 0 (H.world host.new)) }
         ensures same { self.new.transdb.header ≡ self.old.transdb.header }
     {
@@ -238,7 +247,11 @@ impl System {
                     self.sessions[at] = None;
                     Reply::InDoubt(number)
                 }
-                _ => Reply::Fault(0),
+                TransdbError::FaultBefore => Reply::Fault(0),
+                TransdbError::NoDatabase
+                | TransdbError::Damaged { .. }
+                | TransdbError::Fault
+                | TransdbError::NoMemory => unreachable!(),
             },
         }
     }
@@ -256,12 +269,12 @@ fn reserve_place(history: &mut List<Entry>) -> Result<(), AllocError>
     Ok(())
 }
 
-/// The 64 sessions, all of them idle.
+/// The sessions, all of them idle.
 fn idle_sessions(alloc: Global) -> Result<Vec<Option<Transaction>>, AllocError>
-    ensures { IfOk result (λ sessions. sessions.items ≡ replicate 64 none_open) }
+    ensures { IfOk result (λ sessions. sessions.items ≡ replicate SESSIONS none_open) }
 {
-    let mut sessions = Vec::with_capacity(alloc, 64)?;
-    for _session in 0..64usize {
+    let mut sessions = Vec::with_capacity(alloc, SESSIONS as usize)?;
+    for _session in 0..SESSIONS {
         sessions.push(None)?;
     }
     Ok(sessions)

@@ -1,5 +1,7 @@
+//! An open transaction: what it has read, and what it has written.
 ghost use Rattle.std.specs.Prelude.{◌≡◌, ◌++◌, [], OnOk, OnErr, IfOk};
-ghost use Rattle.odb_system.specs.Held.{at_number};
+ghost use Rattle.odb_model.specs.Transaction.{read_at};
+ghost use Rattle.odb_system.specs.Held.{nothing_done, extended};
 
 use odb_model::{Ranges, Read, Write, Writes};
 use odb_values::{Frozen, List};
@@ -10,7 +12,7 @@ use std::marker::Model;
 #[derive(Debug, Drop)]
 pub(crate) struct Transaction {
     reads: List<Read>,
-    own: List<Write>,
+    write_set: List<Write>,
 }
 
 impl Model for Transaction {
@@ -18,17 +20,17 @@ impl Model for Transaction {
 
     ghost Value = { Open };
 
-    ghost view = { λ a. record { reads = a.reads.items; own = a.own.items } };
+    ghost view = { λ a. record { reads = a.reads.items; write_set = a.write_set.items } };
 }
 
 impl Transaction {
     /// One that has read and written nothing.
     pub(crate) fn new(alloc: Global) -> Transaction
-        ensures { result ≡ record { reads = []; own = [] } }
+        ensures { result ≡ nothing_done }
     {
         Transaction {
             reads: List::new(alloc),
-            own: List::new(alloc),
+            write_set: List::new(alloc),
         }
     }
 
@@ -40,13 +42,14 @@ impl Transaction {
     }
 
     /// The writes, in the order in which they were made.
-    pub(crate) fn own(&self) -> &[Write]
-        ensures { result.now ≡ self.now.own }
+    pub(crate) fn write_set(&self) -> &[Write]
+        ensures { result.now ≡ self.now.write_set }
     {
-        self.own.as_slice()
+        self.write_set.as_slice()
     }
 
-    /// Adds what a statement read where the history had this many entries, and what it wrote. An `Err` adds nothing.
+    /// Adds what a statement read where the history had this many entries, and what it wrote. An
+    /// `Err` adds nothing.
     pub(crate) fn grow(
         &mut self,
         alloc: Global,
@@ -54,12 +57,12 @@ impl Transaction {
         ranges: Ranges,
         writes: Writes,
     ) -> Result<(), AllocError>
-        ensures ok { OnOk result (self.new ≡ record { reads = self.old.reads ++ at_number number ranges; own = self.old.own ++ writes }) }
+        ensures ok { OnOk result (self.new ≡ extended self.old (read_at number ranges) writes) }
         ensures err { OnErr result (self.new ≡ self.old) }
     {
         let before = self.reads.len();
         self.reads.append(numbered(alloc, number, ranges)?)?;
-        if self.own.append(writes).is_err() {
+        if self.write_set.append(writes).is_err() {
             self.reads.truncate(before);
             return Err(AllocError);
         }
@@ -69,7 +72,7 @@ impl Transaction {
 
 /// Each of the ranges with this number.
 fn numbered(alloc: Global, number: u64, ranges: Ranges) -> Result<Frozen<Read>, AllocError>
-    ensures { IfOk result (λ reads. reads ≡ at_number number ranges) }
+    ensures { IfOk result (λ reads. reads ≡ read_at number ranges) }
 {
     let reads = ranges
         .into_vec()

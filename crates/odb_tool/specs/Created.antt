@@ -9,7 +9,8 @@ use Rattle.odb_pair.specs.Places.{Opened, no_open_place}
 use Rattle.odb_transdb.specs.Header.{new_header}
 use Rattle.odb_transdb.specs.Opened.{Holds}
 
--- Which status may come, by the pair at the front of file 0: Exists exactly where it has an open place; a fault of any
+-- Which status may come, by the pair at the front of file 0: Exists exactly where it has an open
+-- place; a fault of any
 abbrev pub IsCreationOf : Status → Opened → Type 0
 IsCreationOf Done pair = pair ≡ no_open_place
 IsCreationOf Exists pair = pair ≢ no_open_place
@@ -23,7 +24,8 @@ IsCreationOf (NotHeld bank mark first) pair = ⊥
 IsCreationOf InputTooLong pair = ⊥
 IsCreationOf NoMemory pair = ⊥
 
--- Done: every image of file 0 is a TRANSDB without entries, with sides of 16,384 KiB. Exists: the bytes are as before, and on the disk
+-- Done: every image of file 0 is a TRANSDB without entries, with sides of 16,384 KiB. Exists: the
+-- bytes are as before, and on the disk
 abbrev pub CreateOutcome : Status → World → World → Type 0
 CreateOutcome Done old new = EachImage (Holds (new_header 16384) []) (file_of 0 new)
 CreateOutcome Exists old new = Keeps 0 old new

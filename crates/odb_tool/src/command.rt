@@ -1,3 +1,4 @@
+//! The commands of the program: the call `run`.
 ghost use Rattle.std.specs.Prelude.{◌≡◌, ◌↔◌, ℕ, [], ◌∷◌, map, string_bytes, IsTrue, IfSome};
 ghost use Rattle.odb_device.specs.World.{file_of};
 ghost use Rattle.odb_device.specs.Calls.{FileCountRose};
@@ -15,90 +16,112 @@ use odb_model::Status;
 use odb_play::play;
 use std::alloc::Global;
 
-/// Does all that the program does: `create` makes a database, and `play` plays the script on the host's input over it, and says the
-/// reply to each line on its output.
+/// Does all that the program does: `create` makes a database, and `play` plays the script on the
+/// host's input over it, and says the reply to each line on its output.
 ///
-/// The words are those of the command line, without the program's name: the one word `create`, or the one word `play`. With any
-/// other words the status is `Usage`, nothing is taken, nothing is said and no file is touched: the clauses `usage`, `usage_only`
-/// and `refused`.
+/// The words are those of the command line, without the program's name: the one word `create`, or
+/// the one word `play`. With any other words the status is `Usage`, nothing is taken, nothing is
+/// said and no file is touched: the clauses `usage`, `usage_only` and `refused`.
 ///
 /// # The theorem
 ///
-/// With `play` the clause `played` says this of every script, however its lines interleave the sessions, and of every crash, where
-/// the host tells the bytes that it takes and says and those of TRANSDB, file 0. There is **one run of one machine**. It begins with
-/// the entries that TRANSDB holds as its history, and all sessions idle. It goes over the lines of the bytes taken in this call, one
-/// after another and each line once, and the bytes said in this call are the texts of its replies, in their order. How many of them,
-/// by the status:
+/// With `play` the clause `played` says this of every script, however its lines interleave the
+/// sessions, and of every crash, where the host tells the bytes that it takes and says and those of
+/// TRANSDB, file 0. There is **one run of one machine**. It begins with the entries that TRANSDB
+/// holds as its history, and all sessions idle. It goes over the lines of the bytes taken in this
+/// call, one after another and each line once, and the bytes said in this call are the texts of its
+/// replies, in their order. How many of them, by the status:
 ///
-/// - `Done`: the input was read to its end and has at most 2^32 bytes. Every line has its reply, and all are said.
+/// - `Done`: the input was read to its end and has at most 2^32 bytes. Every line has its reply,
+///   and all are said.
 /// - `ReadFault`: every line that an LF ended has its reply, and all of these are said.
-/// - `InputTooLong`: just 2^32 + 1 bytes were taken. Every line that an LF ended within the first 2^32 has its reply, and
-///   all of these are said.
-/// - `WriteFault`: some first lines have their replies, and all of these are said but for the last one, of which a front is
-///   said, or nothing.
-/// - `NoMemory`: some first lines have their replies and all of these are said; or the last one alone is not, wholly.
+/// - `InputTooLong`: just 2^32 + 1 bytes were taken. Every line that an LF ended within the first
+///   2^32 has its reply, and all of these are said.
+/// - `WriteFault`: some first lines have their replies, and all of these are said but for the last
+///   one, of which a front is said, or nothing.
+/// - `NoMemory`: some first lines have their replies and all of these are said; or the last one
+///   alone is not, wholly.
 ///
 /// What holds of the replies of that run:
 ///
-/// - **Each committed transaction is serial.** Where COMMIT is answered COMMITTED k, the transaction's statements, run alone
-///   after the first k - 1 entries of the history, give the very replies that they gave, and what they leave written is
-///   entry k. Where it is answered ENDED p, the same holds after the first p entries, and they leave nothing written.
-/// - **Conflicts are exact.** COMMIT is answered CONFLICT j where entry j is the first of the history that came after a
-///   read of the transaction and wrote a key of the range read, and where there is no such entry it isn't. A SELECT reads all of
-///   its range, rows that aren't there too.
-/// - **A full log is told exactly**: FULL comes where the entry's record needs more bytes than the side of TRANSDB has left.
-/// - **A fault is counted.** FAULT 0 and INDOUBT come only where the count of faults of TRANSDB rose in that step, and are together
-///   at most as many as it rose by in the call. After INDOUBT k every COMMIT is answered HALTED k.
+/// - **Each committed transaction is serial.** Where COMMIT is answered COMMITTED k, the
+///   transaction's statements, run alone after the first k - 1 entries of the history, give the
+///   very replies that they gave, and what they leave written is entry k. Where it is answered
+///   ENDED p, the same holds after the first p entries, and they leave nothing written.
+/// - **Conflicts are exact.** COMMIT is answered CONFLICT j where entry j is the first of the
+///   history that came after a read of the transaction and wrote a key of the range read, and where
+///   there is no such entry it isn't. A SELECT reads all of its range, rows that aren't there too.
+/// - **A full log is told exactly**: FULL comes where the entry's record needs more bytes than the
+///   side of TRANSDB has left.
+/// - **A fault is counted.** FAULT 0 and INDOUBT come only where the count of faults of TRANSDB
+///   rose in that step, and are together at most as many as it rose by in the call. After INDOUBT k
+///   every COMMIT is answered HALTED k.
 /// - Every other reply has its one cause, in the line or in the session's state.
 ///
-/// **No acknowledged commit is lost.** Where TRANSDB holds the same entries in every image of it as the call begins: at every moment
-/// of the call, whatever a crash then leaves of it opens to the first c entries of the run's history with the entry in doubt behind
-/// it, and c is at least each k of a line COMMITTED k said by then, so nothing that was acknowledged is gone and nothing stands in a
-/// wrong place.
+/// **No acknowledged commit is lost.** Where TRANSDB holds the same entries in every image of it as
+/// the call begins: at every moment of the call, whatever a crash then leaves of it opens to the
+/// first c entries of the run's history with the entry in doubt behind it, and c is at least each k
+/// of a line COMMITTED k said by then, so nothing that was acknowledged is gone and nothing stands
+/// in a wrong place.
 ///
-/// Want of memory alone is free: the reply MEMORY may come in the place of any other to a statement and then changes
-/// nothing, and the status `NoMemory` may come in the place of any other. No other status and no other reply stands for it.
+/// Want of memory alone is free: the reply MEMORY may come in the place of any other to a statement
+/// and then changes nothing, and the status `NoMemory` may come in the place of any other. No other
+/// status and no other reply stands for it.
 ///
-/// Only the host's console and TRANSDB change in the call. `ReadFault` comes only where the count of faults of `take` rose in this
-/// call, `WriteFault` only where that of `say` did, and `FileFault` only where that of TRANSDB did: the clauses `read_fault`,
-/// `write_fault` and `file_fault`. Of a host that doesn't tell its bytes, as `FolderHost`, these are left, and that the end of the
-/// input was met where the status is `Done`.
+/// Only the host's console and TRANSDB change in the call. `ReadFault` comes only where the count
+/// of faults of `take` rose in this call, `WriteFault` only where that of `say` did, and
+/// `FileFault` only where that of TRANSDB did: the clauses `read_fault`, `write_fault` and
+/// `file_fault`. Of a host that doesn't tell its bytes, as `FolderHost`, these are left, and that
+/// the end of the input was met where the status is `Done`.
 ///
 /// # What is refused
 ///
-/// With `play`, by what TRANSDB holds as it reads (`opened`): `NoDatabase` exactly where its pair has no open place, `Damaged` exactly
-/// where it isn't in order and at that place, `NotHeld` exactly where its first entry isn't number 1. Then nothing is taken or said,
-/// and TRANSDB opens as before. With `create` (`creation`, `created`): `Exists` exactly where the pair has an open place already, and
-/// then the file is as before; after `Done` every image of TRANSDB is one without entries.
+/// With `play`, by what TRANSDB holds as it reads (`opened`): `NoDatabase` exactly where its pair
+/// has no open place, `Damaged` exactly where it isn't in order and at that place, `NotHeld`
+/// exactly where its first entry isn't number 1. Then nothing is taken or said, and TRANSDB opens
+/// as before. With `create` (`creation`, `created`): `Exists` exactly where the pair has an open
+/// place already, and then the file is as before; after `Done` every image of TRANSDB is one
+/// without entries.
 ///
 /// # Where each word is defined
 ///
-/// `PlayOutcome`, in `odb_play/specs/Opening.antt`, says what a run starts from; `IsPlayed`, in `odb_play/specs/Played.antt`, ties the
-/// bytes of the host to `PlayEnds`; `SurvivesCrashes`, in `odb_play/specs/Crash.antt`, says what a crash leaves. What the bytes of
-/// TRANSDB hold stands in `odb_transdb/specs/Opened.antt`. The others stand in `odb_model/specs`: `PlayEnds`, a case for each status,
-/// in `Play.antt`; the lines of a script and what a line asks in `Script.antt`; the machine and its steps in `Machine.antt`; what a
-/// statement means in `Meaning.antt`; conflict in `Transaction.antt`; serial in `Serial.antt`; the bytes of replies in `Print.antt`.
+/// `PlayOutcome`, in `odb_play/specs/Opening.antt`, says what a run starts from; `IsPlayed`, in
+/// `odb_play/specs/Played.antt`, ties the bytes of the host to `PlayEnds`; `SurvivesCrashes`, in
+/// `odb_play/specs/Crash.antt`, says what a crash leaves. What the bytes of TRANSDB hold stands in
+/// `odb_transdb/specs/Opened.antt`. The others stand in `odb_model/specs`: `PlayEnds`, a case for
+/// each status, in `Play.antt`; the lines of a script and what a line asks in `Script.antt`; the
+/// machine and its steps in `Machine.antt`; what a statement means in `Meaning.antt`; conflict in
+/// `Transaction.antt`; serial in `Serial.antt`; the bytes of replies in `Print.antt`.
 ///
 /// # Cost
 ///
-/// It waits for nobody, and returns where the calls of the host return. The input is taken in pieces of 65,536 bytes, of a
-/// line no more is kept than a line can have that asks for something, and each reply is said in as few calls as the console
-/// allows. A SELECT or an INSERT goes over the whole history once; a COMMIT with writes syncs TRANSDB twice.
+/// It waits for nobody, and returns where the calls of the host return. The input is taken in
+/// pieces of 65,536 bytes, of a line no more is kept than a line can have that asks for something,
+/// and each reply is said in as few calls as the console allows. A SELECT or an INSERT goes over
+/// the whole history once; a COMMIT with writes syncs TRANSDB twice.
 pub fn run<H: Host>(alloc: Global, words: &[String], host: &mut H) -> Status
     ensures usage { ¬ (IsCommand (map string_bytes words.now)) → result ≡ Status.Usage }
     ensures usage_only { result ≡ Status.Usage → ¬ (IsCommand (map string_bytes words.now)) }
     ensures refused { result ≡ Status.Usage → H.world host.new ≡ H.world host.old }
 
-    ensures played { IsPlay (map string_bytes words.now) → PlayOutcome result (H.world host.old) (H.world host.new) }
-    ensures opened { IsPlay (map string_bytes words.now) → IfSome (file_of 0 (H.world host.old)) (λ f. IsOpeningOf result (opened f.bytes)) }
+    ensures played { IsPlay (map string_bytes words.now)
+        → PlayOutcome result (H.world host.old) (H.world host.new) }
+    ensures opened { IsPlay (map string_bytes words.now)
+        → IfSome (file_of 0 (H.world host.old)) (λ f. IsOpeningOf result (opened f.bytes)) }
 
-    ensures created { IsCreate (map string_bytes words.now) → CreateOutcome result (H.world host.old) (H.world host.new) }
-    ensures creation { IsCreate (map string_bytes words.now) → IfSome (file_of 0 (H.world host.old)) (λ f. IsCreationOf result (pair_opened f.bytes)) }
-    ensures silent { IsCreate (map string_bytes words.now) → Runs 0 (λ _. Unit {0}) (H.world host.old) (H.world host.new) }
+    ensures created { IsCreate (map string_bytes words.now)
+        → CreateOutcome result (H.world host.old) (H.world host.new) }
+    ensures creation { IsCreate (map string_bytes words.now)
+        → IfSome (file_of 0 (H.world host.old)) (λ f. IsCreationOf result (pair_opened f.bytes)) }
+    ensures silent { IsCreate (map string_bytes words.now)
+        → Runs 0 (λ _. Unit {0}) (H.world host.old) (H.world host.new) }
 
-    ensures file_fault { (file : ℕ) → result ≡ Status.FileFault file → (file ≡ 0) × FileCountRose 0 (H.world host.old) (H.world host.new) }
-    ensures read_fault { result ≡ Status.ReadFault → TakeCountRose (H.world host.old) (H.world host.new) }
-    ensures write_fault { result ≡ Status.WriteFault → SayCountRose (H.world host.old) (H.world host.new) }
+    ensures file_fault { (file : ℕ) → result ≡ Status.FileFault file
+        → (file ≡ 0) × FileCountRose 0 (H.world host.old) (H.world host.new) }
+    ensures read_fault { result ≡ Status.ReadFault
+        → TakeCountRose (H.world host.old) (H.world host.new) }
+    ensures write_fault { result ≡ Status.WriteFault
+        → SayCountRose (H.world host.old) (H.world host.new) }
 {
     if is_alone(words, "play") {
         return play(alloc, host);

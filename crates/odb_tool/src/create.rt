@@ -1,3 +1,4 @@
+//! Making a database.
 ghost use Rattle.std.specs.Prelude.{◌≡◌, ℕ, IfSome};
 ghost use Rattle.odb_device.specs.World.{file_of};
 ghost use Rattle.odb_device.specs.Calls.{FileCountRose};
@@ -18,13 +19,16 @@ const FORMAT: u16 = 1;
 
 /// Makes a database of file 0 alone, where its pair has no open place yet.
 ///
-/// `Exists` comes before a byte is written. It writes both sides as zeros, 32 MiB in pieces of 64 KiB, and the pair last.
+/// `Exists` comes before a byte is written. It writes both sides as zeros, 32 MiB in pieces of 64
+/// KiB, and the pair last.
 pub(crate) fn create<S: Store>(store: &mut S) -> Status
     ensures created { CreateOutcome result (S.world store.old) (S.world store.new) }
-    ensures creation { IfSome (file_of 0 (S.world store.old)) (λ f. IsCreationOf result (pair_opened f.bytes)) }
+    ensures creation { IfSome (file_of 0 (S.world store.old))
+        (λ f. IsCreationOf result (pair_opened f.bytes)) }
     ensures statuses { IsCreateStatus result }
     ensures silent { Runs 0 (λ _. Unit {0}) (S.world store.old) (S.world store.new) }
-    ensures file_fault { (file : ℕ) → result ≡ Status.FileFault file → (file ≡ 0) × FileCountRose 0 (S.world store.old) (S.world store.new) }
+    ensures file_fault { (file : ℕ) → result ≡ Status.FileFault file
+        → (file ≡ 0) × FileCountRose 0 (S.world store.old) (S.world store.new) }
 {
     match Pair::open(store, 0) {
         Err(PairError::NoOpenPlace) => {}

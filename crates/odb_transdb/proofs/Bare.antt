@@ -7,10 +7,11 @@ use Rattle.std.proofs.lemmas.Bool.Decides.{nat_tests}
 use Rattle.std.proofs.lemmas.List.Sums.{position_or_len_is}
 use Rattle.odb_device.specs.World.{File, World, file_of}
 use Rattle.odb_device.specs.Images.{part}
+use Rattle.odb_device.specs.Calls.{HasRead}
 use Rattle.odb_device.specs.Moments.{Runs}
 use Rattle.odb_device.proofs.Bytes.{part_at, length-part}
 use Rattle.odb_device.proofs.Time.{begins, joins, weakens, run_end}
-use Rattle.odb_reclog.specs.Standing.{AreZero}
+use Rattle.odb_device.specs.Zeros.{AreZero}
 use Rattle.odb_transdb.specs.declared.header.Header.{Header}
 use Rattle.odb_transdb.specs.Header.{side_start, side_end, side_size, file_size, other_of}
 use Rattle.odb_transdb.specs.Opened.{first_other}
@@ -129,3 +130,8 @@ side_long h side (Some f) low long = omega (arith, inside_file h side low)
 -- no side ends beyond a word's numbers
 pub side_small : (h : Header) (side : ℕ) → side ≤ 1 → h.side_kib ≤ 16384 → side_end h side < 2 ^ 40
 side_small h side low small = omega (arith, inside_file h side low)
+
+-- where a whole piece was read, none of its bytes is missing
+pub none_missing : (Q : Type 0) (o : Option File) (at n m : ℕ) (out : List ℕ) → HasRead o at n out → length out ≡ m → m ≤ n → IfSome o (λ f. (k : ℕ) → k < m → length f.bytes ≤ at + k → Q)
+none_missing Q None at n m out read size whole = tt
+none_missing Q (Some f) at n m out read size whole = λ k low missing. absurd (omega (arith, read.0))

@@ -8,7 +8,7 @@ use Rattle.odb_device.proofs.Bytes.{image_kept}
 use Rattle.odb_device.proofs.Time.{joins, weakens, run_end}
 use Rattle.odb_device.proofs.Torn.{each_weakens}
 use Rattle.odb_pair.specs.Places.{Opened as PairOpened, holding as holding_value, opened as pair_opened}
-use Rattle.odb_pair.specs.Standing.{Kept, StandsFor as PairStandsFor}
+use Rattle.odb_pair.specs.Standing.{PairState, StandsFor as PairStandsFor}
 use Rattle.odb_pair.specs.Laws.{stands_beside}
 use Rattle.odb_reclog.specs.Records.{log_of}
 use Rattle.odb_reclog.specs.Standing.{Log, Stands as LogStands}
@@ -26,29 +26,29 @@ use Rattle.odb_transdb.proofs.Standing.{live_side, other_stays, keeps_torn}
 use Rattle.odb_transdb.proofs.Sides.{IsInside, active_sides, other_zeros, active_header, active_opens, live_header, live_opens}
 
 -- the bytes are those of the pair, keep this header, open to this, and a Clean side is zeros
-pub record IsBased (pair : Kept) (h : Header) (what : Opened) (image : List ℕ) : Type 0 where
+pub record IsBased (pair : PairState) (h : Header) (what : Opened) (image : List ℕ) : Type 0 where
   pub pair_is : PairStandsFor pair image
   pub has : HasHeader h image
   pub opens : opened image ≡ what
   pub clean : h.other ≡ Clean → first_other h (other_of h) image ≡ None
 
-abbrev pub AreBased : Kept → Header → Option File → Option File → Type 0
+abbrev pub AreBased : PairState → Header → Option File → Option File → Type 0
 AreBased pair h None now = now ≡ None
 AreBased pair h (Some f) now = EachImage (IsBased pair h (opened f.bytes)) now
 
 -- what the pair says
-pub record IsOfPair (pair : Kept) (h : Header) : Type 0 where
+pub record IsOfPair (pair : PairState) (h : Header) : Type 0 where
   pub lawful : IsTrue (is_header h)
   pub value : pair.value ≡ header_image h
 
 -- bytes whose pair was found open by their header
-pub pair_opens : (pair : Kept) (h : Header) (bytes : List ℕ) → IsOfPair pair h → pair_opened bytes ≡ holding_value pair.value → opened bytes ≡ with_header (Some h) bytes
+pub pair_opens : (pair : PairState) (h : Header) (bytes : List ℕ) → IsOfPair pair h → pair_opened bytes ≡ holding_value pair.value → opened bytes ≡ with_header (Some h) bytes
 unfolding opened
 pair_opens pair h bytes of found =
     ap (λ (p : PairOpened). with_pair p bytes) found ∙ ap (λ (v : List ℕ). with_header (header_of v) bytes) of.value
     ∙ ap (λ (o : Option Header). with_header o bytes) (header_again h of.lawful)
 
-module _ (pair : Kept) (h : Header) (of : IsOfPair pair h) where
+module _ (pair : PairState) (h : Header) (of : IsOfPair pair h) where
   pub low_side : h.active ≤ 1
   low_side = (lawful_is h of.lawful).active
 

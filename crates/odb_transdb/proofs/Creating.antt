@@ -1,24 +1,28 @@
 -- Sides that are zeros, and the database that they are.
-use Rattle.std.proofs.Common.{◌≡◌, inr, ℕ, suc, ◌+◌, ◌-◌, ◌<◌, ◌≤◌, max, Bool, false, List, [], ◌∷◌, length, Option, Some, None, refl, sym, ◌∙◌, ap, subst, arith}
-use Rattle.std.specs.Prelude.{IsTrue, not, ◌==◌, nat_lt, slice_index, option_map, position, if◌then◌else◌, IfSome}
+use Rattle.std.proofs.Common.{◌≡◌, ◌⊎◌, inl, inr, ℕ, suc, ◌+◌, ◌-◌, ◌<◌, ◌≤◌, max, Bool, false, List, [], ◌∷◌, length, Option, Some, None, Result, refl, sym, ◌∙◌, ap, subst, arith}
+use Rattle.std.specs.Prelude.{IsTrue, not, ◌==◌, nat_lt, slice_index, option_map, position, if◌then◌else◌, IfSome, OnOk, OnErr}
 use Rattle.std.specs.List.{position_or_len}
 use Rattle.std.proofs.lemmas.Bool.Decides.{nat_tests}
 use Rattle.std.proofs.lemmas.List.Sums.{position_or_len_is}
 use Rattle.odb_device.specs.World.{File, World, file_of}
-use Rattle.odb_device.specs.Images.{EachImage, Torn, TornFrom, part, kept, written}
-use Rattle.odb_device.specs.Calls.{CallsOn, Keeps, Writes}
+use Rattle.odb_device.specs.Images.{IsImage, EachImage, ReadsImage, Torn, TornFrom, part, kept}
+use Rattle.odb_device.specs.Calls.{CallsOn, Keeps, Unsettles}
 use Rattle.odb_device.specs.Moments.{Runs}
-use Rattle.odb_device.proofs.Bytes.{part_at, length-part, image_kept, length-overwritten}
+use Rattle.odb_device.proofs.Bytes.{part_at, length-part, image_kept}
+use Rattle.odb_device.proofs.OneCall.{sync_from}
 use Rattle.odb_device.proofs.Time.{begins, goes_on, weakens, joins, run_end}
-use Rattle.odb_device.proofs.Torn.{torn_each}
+use Rattle.odb_device.proofs.Torn.{torn_each, each_weakens, stays_from}
 use Rattle.odb_pair.specs.Places.{Holds as PairHolds}
+use Rattle.odb_pair.specs.Same.{opened_same, place_stays}
 use Rattle.odb_reclog.specs.Records.{records_from, payload_at, end_at}
-use Rattle.odb_reclog.specs.Clearing.{ReadsZero}
+use Rattle.odb_device.specs.Zeros.{ReadsZero, ZerosGoOn}
+use Rattle.odb_reclog.specs.Told.{TearsOnly}
+use Rattle.odb_reclog.proofs.Pieces.{from_widens, from_then}
 use Rattle.odb_reclog.proofs.Records.{no_gate}
 use Rattle.odb_reclog.proofs.Standing.{zero_gate}
 use Rattle.odb_transdb.specs.Header.{header_image, is_header, side_start, side_end, side_size, file_size, new_header}
 use Rattle.odb_transdb.specs.Opened.{entries_from, Holds}
-use Rattle.odb_transdb.specs.Steps.{IsBlank}
+use Rattle.odb_transdb.specs.Steps.{IsBlank, KeepsPair, PairComesLast}
 use Rattle.odb_transdb.proofs.Headers.{header_again}
 use Rattle.odb_transdb.proofs.Opened.{Has, has_holds}
 
@@ -57,7 +61,7 @@ blank_has kib bytes low high blank pair =
 
 -- so far zeros are written
 pub record IsZeroed (w now : World) (end at : ℕ) : Type 0 where
-  pub run : Runs 0 (λ _. Unit {0}) w now
+  pub run : TearsOnly 0 1024 (end - 1024) w now
   pub low : 1024 ≤ at
   pub high : at ≤ end
   pub zero : ReadsZero 1024 at (file_of 0 now)
@@ -65,7 +69,7 @@ pub record IsZeroed (w now : World) (end at : ℕ) : Type 0 where
 
 pub zeroed_none : (w : World) (end : ℕ) → 1024 ≤ end → IsZeroed w w end 1024
 zeroed_none w end more = record {
-  run = begins 0 (λ _. Unit {0}) w tt;
+  run = begins 0 (TornFrom 1024 (end - 1024) (file_of 0 w)) w (stays_from 1024 (end - 1024) (file_of 0 w) (file_of 0 w) refl);
   low = omega arith;
   high = more;
   zero = nothing (file_of 0 w);
@@ -80,19 +84,35 @@ zeroed_none w end more = record {
     short None = tt
     short (Some f) = omega arith
 
-pub zeroed_more : (w mid now : World) (end at n : ℕ) → IsZeroed w mid end at → at + n ≤ end → CallsOn 0 mid now
-    → ((from : ℕ) → from ≤ at → ReadsZero from at (file_of 0 mid) → ReadsZero from (at + n) (file_of 0 now)) → IfSome (file_of 0 now) (λ f. at + n ≤ length f.bytes) → IsZeroed w now end (at + n)
-zeroed_more w mid now end at n so_far within call zero long = record {
-  run = goes_on 0 (λ _. Unit {0}) w mid now so_far.run call tt;
-  low = omega (arith, so_far.low);
-  high = within;
-  zero = zero 1024 so_far.low so_far.zero;
-  long = longer (file_of 0 now) long;
-}
-  where
-    longer : (o : Option File) → IfSome o (λ f. at + n ≤ length f.bytes) → IfSome o (λ f. at + n ≤ max 1024 (length f.bytes))
-    longer None is = tt
-    longer (Some f) is = omega arith
+module _ (w mid now : World) (end at n : ℕ) (so_far : IsZeroed w mid end at) (within : at + n ≤ end) (call : CallsOn 0 mid now) (torn : TornFrom at n (file_of 0 mid) (file_of 0 now)) where
+  -- whatever a write answered
+  pub zeroed_run : TearsOnly 0 1024 (end - 1024) w now
+  zeroed_run =
+      let P = TornFrom 1024 (end - 1024) (file_of 0 w) in
+      let low = so_far.low in
+      goes_on 0 P w mid now so_far.run call
+      (from_then 1024 (end - 1024) (file_of 0 w) (file_of 0 mid) (file_of 0 now) (run_end 0 P w mid so_far.run)
+      (from_widens at n 1024 (end - 1024) (file_of 0 mid) (file_of 0 now) (omega arith) (omega arith) torn))
+
+  pub zeroed_more : ZerosGoOn at n (file_of 0 mid) (file_of 0 now) → IfSome (file_of 0 now) (λ f. at + n ≤ length f.bytes) → IsZeroed w now end (at + n)
+  zeroed_more zero long = record {
+    run = zeroed_run;
+    low = omega (arith, so_far.low);
+    high = within;
+    zero = zero 1024 so_far.low so_far.zero;
+    long = longer (file_of 0 now) long;
+  }
+    where
+      longer : (o : Option File) → IfSome o (λ f. at + n ≤ length f.bytes) → IfSome o (λ f. at + n ≤ max 1024 (length f.bytes))
+      longer None is = tt
+      longer (Some f) is = omega arith
+
+-- whatever the sync behind them answered
+pub zeroed_sync : {E : Type 0} (w mid now : World) (end at : ℕ) (result : Result (Unit {0}) E) → IsZeroed w mid end at → CallsOn 0 mid now → ReadsImage (file_of 0 mid) → OnOk result (Keeps 0 mid now) → OnErr result (Unsettles 0 mid now)
+    → TearsOnly 0 1024 (end - 1024) w now
+zeroed_sync w mid now end at result so_far call reads kept unsettled =
+    let P = TornFrom 1024 (end - 1024) (file_of 0 w) in
+    goes_on 0 P w mid now so_far.run call (sync_from 0 mid now result 1024 (end - 1024) w (run_end 0 P w mid so_far.run) reads kept unsettled)
 
 -- and synced
 pub zeroed_kept : (w mid now : World) (end : ℕ) → 1024 < end → IsZeroed w mid end end → Keeps 0 mid now → EachImage (IsBlank end) (file_of 0 now)
@@ -124,13 +144,42 @@ made_holds kib mid now low high blank run pair =
     both None blank pair = tt
     both (Some f) blank pair = λ image is. has_holds (new_header kib) [] image (blank_has kib image low high (blank image is) (pair image is))
 
-pub made_run : (w mid now : World) → Runs 0 (λ _. Unit {0}) w mid → Runs 0 (TornFrom 0 1024 (file_of 0 mid)) mid now → Runs 0 (λ _. Unit {0}) w now
-made_run w mid now first second = joins 0 (λ _. Unit {0}) w mid now first (weakens 0 (TornFrom 0 1024 (file_of 0 mid)) (λ _. Unit {0}) mid now (λ o torn. tt) second)
+-- a write behind the pair leaves it
+pair_stays : (n : ℕ) (before image : List ℕ) → Torn 1024 n before image → KeepsPair before image
+pair_stays n before image torn = λ long.
+    let same : nat_lt (length image) 1024 ≡ nat_lt (length before) 1024 = grind (arith, nat_tests, torn.no_shorter, long) in
+    opened_same before image same (place_stays 0 1024 n before image torn (omega arith) (inl (omega arith))) (place_stays 1 1024 n before image torn (omega arith) (inl (omega arith)))
 
--- a write is as long as its bytes reach
-pub written_long : (at : ℕ) (bytes : List ℕ) (w now : World) → Writes 0 at bytes w now → IfSome (file_of 0 now) (λ f. at + length bytes ≤ length f.bytes)
-written_long at bytes w now is = subst (λ (o : Option File). IfSome o (λ f. at + length bytes ≤ length f.bytes)) (sym is) (of_old (file_of 0 w))
-  where
-    of_old : (o : Option File) → IfSome (option_map (written at bytes) o) (λ f. at + length bytes ≤ length f.bytes)
-    of_old None = tt
-    of_old (Some f) = omega (arith, length-overwritten at bytes f.bytes)
+module _ (kib : ℕ) where
+  abbrev Last : Option File → Option File → Type 0
+  Last = PairComesLast (new_header kib)
+
+  abbrev end : ℕ
+  end = file_size (new_header kib)
+
+  torn_last : (o p : Option File) → TornFrom 1024 (end - 1024) o p → Last o p
+  torn_last None p torn = torn
+  torn_last (Some f) p torn =
+      each_weakens (λ image. (before : List ℕ) × IsImage f before × Torn 1024 (end - 1024) before image)
+      (λ image. ((before : List ℕ) × IsImage f before × KeepsPair before image) ⊎ IsBlank end image) p
+      (λ image b. inl (b.0, b.1, pair_stays (end - 1024) b.0 image b.2)) torn
+
+  blank_last : (o mid p : Option File) → TornFrom 1024 (end - 1024) o mid → EachImage (IsBlank end) mid → TornFrom 0 1024 mid p → Last o p
+  blank_last None mid p first blank torn = subst (λ (m : Option File). TornFrom 0 1024 m p) first torn
+  blank_last (Some f) mid p first blank torn =
+      each_weakens (IsBlank end) (λ image. ((before : List ℕ) × IsImage f before × KeepsPair before image) ⊎ IsBlank end image) p (λ image b. inr b)
+      (torn_each (IsBlank end) (IsBlank end) 0 1024 mid p (λ before image one t. blank_beside end 0 1024 before image (omega arith) one t) blank torn)
+
+  -- the sides are zeroed
+  pub sides_moments : (w mid : World) → TearsOnly 0 1024 (end - 1024) w mid → Runs 0 (Last (file_of 0 w)) w mid
+  sides_moments w mid run = weakens 0 (TornFrom 1024 (end - 1024) (file_of 0 w)) (Last (file_of 0 w)) w mid (λ o torn. torn_last (file_of 0 w) o torn) run
+
+  -- and then the pair is made
+  pub made_moments : (w mid now : World) → TearsOnly 0 1024 (end - 1024) w mid → EachImage (IsBlank end) (file_of 0 mid) → TearsOnly 0 0 1024 mid now → Runs 0 (Last (file_of 0 w)) w now
+  made_moments w mid now first blank second =
+      let P = Last (file_of 0 w) in
+      let here = run_end 0 (TornFrom 1024 (end - 1024) (file_of 0 w)) w mid first in
+      joins 0 P w mid now (sides_moments w mid first) (weakens 0 (TornFrom 0 1024 (file_of 0 mid)) P mid now (λ o torn. blank_last (file_of 0 w) (file_of 0 mid) o here blank torn) second)
+
+pub any_run : (P : Option File → Type 0) (w now : World) → Runs 0 P w now → Runs 0 (λ _. Unit {0}) w now
+any_run P w now run = weakens 0 P (λ _. Unit {0}) w now (λ o is. tt) run

@@ -6,7 +6,7 @@ use Rattle.odb_device.specs.World.{File}
 use Rattle.odb_device.specs.Images.{ReadsImage}
 use Rattle.odb_device.proofs.Torn.{each_weakens}
 use Rattle.odb_pair.specs.Places.{holding as holding_value, opened as pair_opened}
-use Rattle.odb_pair.specs.Standing.{Kept, StandsFor as PairStandsFor}
+use Rattle.odb_pair.specs.Standing.{PairState, StandsFor as PairStandsFor}
 use Rattle.odb_reclog.specs.Standing.{Log, Stands as LogStands}
 use Rattle.odb_model.specs.declared.entry.Entry.{Entry}
 use Rattle.odb_model.specs.declared.side.OtherSide.{OtherSide}
@@ -81,7 +81,7 @@ module _ (h : Header) (active : Log) (f : File) (side : IsOfSide h h.active acti
   sound_now Clean None by lives clean = clean refl
 
 -- when both logs are open
-pub record AreOpen (pair : Kept) (h : Header) (live : Option Log) (active : Log) (o now : Option File) : Type 0 where
+pub record AreOpen (pair : PairState) (h : Header) (live : Option Log) (active : Log) (o now : Option File) : Type 0 where
   pub based : AreBased pair h o now
   pub told : is_some now ≡ is_some o
   pub reads : ReadsImage now
@@ -90,7 +90,7 @@ pub record AreOpen (pair : Kept) (h : Header) (live : Option Log) (active : Log)
   pub by : IsLiveBy h h.other live active
   pub lives : IfSome live (λ log. LogStands log now)
 
-module _ (pair : Kept) (h : Header) (live : Option Log) (active : Log) (o now : Option File) (are : AreOpen pair h live active o now) where
+module _ (pair : PairState) (h : Header) (live : Option Log) (active : Log) (o now : Option File) (are : AreOpen pair h live active o now) where
   -- the bytes hold what both sides hold
   shows : (f g : File) → AreOpen pair h live active (Some f) (Some g) → opened f.bytes ≡ with_entries h (sides_read h g.bytes)
   shows f g are =
@@ -127,12 +127,12 @@ module _ (pair : Kept) (h : Header) (live : Option Log) (active : Log) (o now : 
       of_files (Some f) (Some g) are = ap entries_of (are.based g.bytes are.reads).opens
 
 -- what the sides' lengths and zeros show, and what a Live side's end and its records show
-pub refused_check : {U : Type 0} (Q : U → Opened → Type 0) (pair : Kept) (h : Header) (o : Option File) (e : TransdbError) → IsOfPair pair h → IfSome o (λ f. pair_opened f.bytes ≡ holding_value pair.value)
+pub refused_check : {U : Type 0} (Q : U → Opened → Type 0) (pair : PairState) (h : Header) (o : Option File) (e : TransdbError) → IsOfPair pair h → IfSome o (λ f. pair_opened f.bytes ≡ holding_value pair.value)
     → IfSome o (λ f. IsUnless {T = Unit {0}} (with_header (Some h) f.bytes) (λ _. IsChecked h f.bytes) (Err e)) → IfSome o (λ f. IsAnswerBy Q (Err e) (opened f.bytes))
 refused_check Q pair h None e of found told = tt
 refused_check Q pair h (Some f) e of found told = unless_answer {T = Unit {0}} (λ _. IsChecked h f.bytes) Q (opened f.bytes) (with_header (Some h) f.bytes) e (pair_opens pair h f.bytes of found) told
 
-pub refused_live : {T U : Type 0} (P : File → T → Opened → Type 0) (Q : U → Opened → Type 0) (pair : Kept) (h : Header) (o mid : Option File) (e : TransdbError) → mid ≡ o → ReadsImage o → AreBased pair h o o
+pub refused_live : {T U : Type 0} (P : File → T → Opened → Type 0) (Q : U → Opened → Type 0) (pair : PairState) (h : Header) (o mid : Option File) (e : TransdbError) → mid ≡ o → ReadsImage o → AreBased pair h o o
     → IfSome mid (λ f. IsAnswerBy (P f) (Err e) (with_sides h h.other f.bytes)) → IfSome o (λ f. IsAnswerBy Q (Err e) (opened f.bytes))
 refused_live {T} {U} P Q pair h o mid e same reads based told = of_file o reads based (subst (λ (x : Option File). IfSome x (λ f. IsAnswerBy (P f) (Err e) (with_sides h h.other f.bytes))) same told)
   where
@@ -141,7 +141,7 @@ refused_live {T} {U} P Q pair h o mid e same reads based told = of_file o reads 
     of_file (Some f) reads based told = answer_err (P f) Q (opened f.bytes) (with_sides h h.other f.bytes) e (by_sides h f.bytes (based f.bytes reads).has) told
 
 -- The entries of the other side were read, of the file as it is now
-pub record HasFront (pair : Kept) (h : Header) (front : List Entry) (o now : Option File) : Type 0 where
+pub record HasFront (pair : PairState) (h : Header) (front : List Entry) (o now : Option File) : Type 0 where
   pub based : AreBased pair h o now
   pub told : is_some now ≡ is_some o
   pub reads : ReadsImage now
@@ -153,7 +153,7 @@ sound_read h Live bytes front read count clean = omega (arith, count, count_read
 sound_read h Dirty bytes front read count clean = tt
 sound_read h Clean bytes front read count clean = clean refl
 
-module _ (pair : Kept) (h : Header) (front : List Entry) where
+module _ (pair : PairState) (h : Header) (front : List Entry) where
   -- then the active side decides
   shows_rest : (f g : File) → HasFront pair h front (Some f) (Some g) → opened f.bytes ≡ with_entries h (joined (Ok front) (side_entries h h.active g.bytes))
   shows_rest f g has =

@@ -1,5 +1,5 @@
 -- The entries of both sides, one behind another.
-use Rattle.std.proofs.Common.{◌≡◌, ◌≢◌, inl, inr, ℕ, ◌+◌, ◌-◌, max, false, List, [], ◌++◌, length, drop, Option, Some, None, Result, Ok, Err, refl, sym, ◌∙◌, ap, subst, arith, length-append}
+use Rattle.std.proofs.Common.{◌≡◌, inl, inr, ℕ, ◌+◌, ◌-◌, ◌≤◌, max, false, List, [], ◌++◌, length, drop, Option, Some, None, Result, Ok, Err, refl, sym, ◌∙◌, ap, subst, arith, length-append}
 use Rattle.std.specs.Prelude.{IfSome, IfOk}
 use Rattle.std.proofs.lemmas.Bool.{cases_lt}
 use Rattle.std.proofs.lemmas.List.{drop_all, drop-append-le}
@@ -16,11 +16,10 @@ use Rattle.odb_model.specs.declared.side.OtherSide.TheVariants.{Live, Dirty, Cle
 use Rattle.odb_model.specs.State.{IsNumberedFrom}
 use Rattle.odb_transdb.specs.declared.header.Header.{Header}
 use Rattle.odb_transdb.specs.declared.error.TransdbError.{TransdbError}
-use Rattle.odb_transdb.specs.declared.error.TransdbError.TheVariants.{Damaged}
 use Rattle.odb_transdb.specs.Header.{side_start, first_on, active_first, other_of, first_by, first_held}
 use Rattle.odb_transdb.specs.Opened.{side_list, entries_from, side_entries, joined, entries_in}
 use Rattle.odb_transdb.specs.Standing.{Db, IsOfSide, IsLiveBy, Stands}
-use Rattle.odb_transdb.specs.Walking.{live_read, sides_read, IsReadOf, AddsPart}
+use Rattle.odb_transdb.specs.Walking.{live_read, sides_read, IsReadOf, AddsPart, AddsSome, AreSome}
 use Rattle.odb_transdb.proofs.Entries.{count_read}
 use Rattle.odb_transdb.proofs.Opened.{read_by}
 use Rattle.odb_transdb.proofs.Standing.{log_list, stands_has}
@@ -76,6 +75,23 @@ both_numbers from first active next bytes old new same numbered count part =
       omega (arith, part.2.count, ap (length {A = Entry}) part.1, length-append old part.0),
     )
 
+pub both_some : (from first active next : ℕ) (old new : List Entry) → first ≡ active → active ≤ next → IsNumberedFrom from old → from + length old ≡ max from active → AddsSome from first next old new → AreSome from next new
+both_some from first active next old new same least numbered count some =
+    let n = some.0 in
+    let high = some.2 in
+    let all = both_numbers from first active n some.1 old new same numbered count some.3 in
+    (all.0, omega (arith, all.1, high, least))
+
+-- those of a Live side alone
+pub live_some : (from first next : ℕ) (old new : List Entry) → first ≤ from → old ≡ [] → AddsSome from first next old new → AreSome from next new
+live_some from first next old new low none some =
+    let part = some.3 in
+    let start : max from first ≡ from = omega arith in
+    let new_is : new ≡ part.0 = part.1 ∙ ap (λ (l : List Entry). l ++ part.0) none in (
+      subst (IsNumberedFrom from) (sym new_is) (subst (λ (n : ℕ). IsNumberedFrom n part.0) start part.2.numbers),
+      omega (arith, part.2.count, some.2, ap (length {A = Entry}) new_is),
+    )
+
 -- where there is a log of the other side, that is Live
 pub record LiveIs (h : Header) (o : OtherSide) (log active : Log) : Type 0 where
   pub live : o ≡ Live
@@ -92,6 +108,14 @@ live_is h Dirty (Some found) log active is by = absurd by
 live_is h Dirty None log active is by = absurd (cc is)
 live_is h Clean (Some found) log active is by = absurd by
 live_is h Clean None log active is by = absurd (cc is)
+
+-- so its entries that were read are some of those before the active side's
+pub live_adds : (h : Header) (log active : Log) (from : ℕ) (old new : List Entry) → LiveIs h h.other log active → IsOfSide h h.active active → first_held h ≤ from → old ≡ []
+    → AddsSome from log.first log.next old new → AreSome from (active_first h) new
+live_adds h log active from old new is side low none some =
+    let first : first_held h ≡ first_on h (other_of h) = ap (first_by h) is.live in
+    let next : log.next ≡ active_first h = is.next ∙ side.first in
+    subst (λ (n : ℕ). AreSome from n new) next (live_some from log.first log.next old new (omega (arith, is.side.first, first, low)) none some)
 
 pub live_told : (h : Header) (log active : Log) (o : Option File) (from : ℕ) (base items : List Entry) → LiveIs h h.other log active → IsOfSide h h.active active → LogStands log o → ReadsImage o → base ≡ []
     → IfSome o (λ f. (all : List Entry) × (entries_from log.first log.start (log_of log.start log.end log.first f.bytes) ≡ Ok all) × (items ≡ base ++ drop (from - log.first) all))
@@ -147,9 +171,7 @@ module _ (db : Db) (from : ℕ) (result : Result (List Entry) TransdbError) wher
   given None stands reads told = tt
   given (Some f) stands reads told = given_entries (sides_read db.header f.bytes) (entries_in (Some f)) result (stands_read db f stands reads) told
 
-  pub never_damaged : (o : Option File) → Stands db o → ReadsImage o → IfSome o (λ f. IsReadOf (λ all es. es ≡ drop (from - first_held db.header) all) (sides_read db.header f.bytes) result)
-      → IfSome o (λ f. (at : ℕ) → result ≢ Err (Damaged at))
-  never_damaged None stands reads told = tt
-  never_damaged (Some f) stands reads told = λ at is.
-      let wrong : sides_read db.header f.bytes ≡ Err at = subst (IsReadOf (λ all es. es ≡ drop (from - first_held db.header) all) (sides_read db.header f.bytes)) is told in
-      absurd (cc (wrong, stands_read db f stands reads))
+-- a told file never refuses
+pub never_damaged : (db : Db) (at : ℕ) (Q : File → Type 0) (o : Option File) → Stands db o → ReadsImage o → IfSome o (λ f. sides_read db.header f.bytes ≡ Err at) → IfSome o Q
+never_damaged db at Q None stands reads told = tt
+never_damaged db at Q (Some f) stands reads told = absurd (cc (told, stands_read db f stands reads))

@@ -5,7 +5,7 @@ use Rattle.std.proofs.lemmas.Bool.{false≢true}
 use Rattle.odb_device.specs.World.{File}
 use Rattle.odb_device.specs.Images.{IsImage, EachImage, ReadsImage, Torn, TornFrom}
 use Rattle.odb_device.proofs.Torn.{torn_each, each_weakens}
-use Rattle.odb_pair.specs.Standing.{Kept, StandsFor as PairStandsFor}
+use Rattle.odb_pair.specs.Standing.{PairState, StandsFor as PairStandsFor}
 use Rattle.odb_pair.specs.Laws.{stands_beside}
 use Rattle.odb_reclog.specs.Records.{log_of}
 use Rattle.odb_reclog.specs.Standing.{Log, StandsFor as LogStandsFor, Stands as LogStands, SameList, list_of, tail_of}
@@ -84,7 +84,7 @@ log_stays log at n o now beside stands torn reads =
     stands_each log records between now reads
     (torn_each (LogStandsFor log records between) (LogStandsFor log records between) at n o now (λ before image one t. log_beside log records between at n before image one t beside) stands torn)
 
-pub pair_stays : (pair : Kept) (at n : ℕ) (o now : Option File) → 1024 ≤ at → EachImage (PairStandsFor pair) o → TornFrom at n o now → EachImage (PairStandsFor pair) now
+pub pair_stays : (pair : PairState) (at n : ℕ) (o now : Option File) → 1024 ≤ at → EachImage (PairStandsFor pair) o → TornFrom at n o now → EachImage (PairStandsFor pair) now
 pair_stays pair at n o now far stands torn = torn_each (PairStandsFor pair) (PairStandsFor pair) at n o now (λ before image one t. stands_beside pair at n before image one t far) stands torn
 
 -- what the calls of a log say, as changes of a range

@@ -22,7 +22,7 @@ use Rattle.odb_model.specs.Width.{record_width}
 use Rattle.odb_transdb.specs.declared.error.TransdbError.{TransdbError}
 use Rattle.odb_transdb.specs.declared.error.TransdbError.TheVariants.{NoDatabase, Damaged, Full, FaultBefore, InDoubt, Fault, NoMemory}
 use Rattle.odb_transdb.specs.Opened.{entries_from}
-use Rattle.odb_transdb.specs.Walking.{IsReadOf, IsRecordOf, IsEntryOf, IsPart, AddsPart}
+use Rattle.odb_transdb.specs.Walking.{IsReadOf, IsRecordOf, IsEntryOf, IsPart, AddsPart, AddsSome}
 use Rattle.odb_transdb.proofs.Entries.{read_more, read_fault, count_read}
 
 -- the places of a list
@@ -157,6 +157,7 @@ pub record IsWalked (log : Log) (from : ℕ) (base : List Entry) (w now : World)
   pub low : log.start ≤ at
   pub high : (at ≡ log.start) ⊎ (at ≤ log.place)
   pub least : log.first ≤ number
+  pub most : number ≤ max log.first log.next
   pub part : AddsPart from log.first number (at - log.start) base items
   pub told : IfSome (file_of log.file w) (λ f. IsReadUpTo from log.start log.first (log_of log.start log.end log.first f.bytes) base items at number)
 
@@ -182,6 +183,7 @@ walked_first log from base w window shows = record {
   low = omega arith;
   high = inl refl;
   least = omega arith;
+  most = omega arith;
   part = ([], sym (append-nil base), part_none from log.first (log.start - log.start) (omega arith));
   told = of_file (file_of log.file w);
 }
@@ -247,6 +249,10 @@ module _ (log : Log) (from : ℕ) (base : List Entry) (w mid : World) (window : 
   pub walked_file : file_of log.file mid ≡ file_of log.file w
   walked_file = run_end log.file (λ f. f ≡ file_of log.file w) w mid so_far.run
 
+  -- those that were read so far
+  pub walked_some : (new : List Entry) → new ≡ items → AddsSome from log.first log.next base new
+  walked_some new is = (number, at - log.start, so_far.most, subst (AddsPart from log.first number (at - log.start) base) (sym is) so_far.part)
+
   -- the place is one of the list
   pub walked_place : IfSome (file_of log.file w) (λ f. IsPlaceIn log.start (log_of log.start log.end log.first f.bytes) at)
   walked_place = of_file (file_of log.file w) so_far.told
@@ -283,7 +289,7 @@ module _ (log : Log) (from : ℕ) (base : List Entry) (w mid : World) (window : 
         of_file (Some f) stands reads told there =
             entry_refused from log.start log.first (log_of log.start log.end log.first f.bytes) base items at number told (its_next f stands reads inside told) P r there.0 its_number e refused
 
-    module _ (now : World) (shown : Window) (e : Entry) (added : List Entry) (run : Runs log.file (λ f. f ≡ file_of log.file mid) mid now) (shows : Shows shown (file_of log.file mid)) (ends : r.next ≡ at + 13 + length r.payload) (last : r.next ≤ log.place)
+    module _ (now : World) (shown : Window) (e : Entry) (added : List Entry) (low : number < log.next) (run : Runs log.file (λ f. f ≡ file_of log.file mid) mid now) (shows : Shows shown (file_of log.file mid)) (ends : r.next ≡ at + 13 + length r.payload) (last : r.next ≤ log.place)
         (is : IsEntryOf r.number r.payload at (Ok e)) (items_now : added ≡ items ++ drop (from - number) (e ∷ [])) where
       wide : r.next - log.start ≡ at - log.start + record_width e
       wide = omega (arith, is.2, so_far.low)
@@ -307,6 +313,7 @@ module _ (log : Log) (from : ℕ) (base : List Entry) (w mid : World) (window : 
         low = omega (arith, so_far.low);
         high = inr last;
         least = omega (arith, so_far.least);
+        most = omega arith;
         part = part_more from log.first number (at - log.start) (r.next - log.start) base items added e so_far.least so_far.part (is.1 ∙ its_number) wide items_now;
         told = told_more (file_of log.file w) stands reads so_far.told there;
       }

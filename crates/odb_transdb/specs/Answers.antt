@@ -12,8 +12,10 @@ use Rattle.odb_transdb.specs.declared.error.TransdbError.TheVariants.{NoDatabase
 use Rattle.odb_transdb.specs.Opened.{Opened, no_database, damaged, holding, Holds, opened}
 use Rattle.odb_transdb.specs.Standing.{Db, room_of}
 
--- P of what was opened and what the bytes stand for, or the refusal that they ask for; a fault and want of memory may come of any bytes
-abbrev pub IsAnswerBy : {T : Type 0} → (T → Opened → Type 0) → Result T TransdbError → Opened → Type 0
+-- P of what was opened and what the bytes stand for, or the refusal that they ask for; a fault and
+-- want of memory may come of any bytes
+abbrev pub IsAnswerBy : {T : Type 0}
+    → (T → Opened → Type 0) → Result T TransdbError → Opened → Type 0
 IsAnswerBy P (Ok x) what = P x what
 IsAnswerBy P (Err NoDatabase) what = what ≡ no_database
 IsAnswerBy P (Err (Damaged at)) what = what ≡ damaged at
@@ -56,7 +58,8 @@ IsReadRefusal (Err (InDoubt number)) = ⊥
 -- each image opens as one from before did
 abbrev pub KeepsOpened : Option File → Option File → Type 0
 KeepsOpened None new = new ≡ None
-KeepsOpened (Some old) new = EachImage (λ image. (before : List ℕ) × IsImage old before × (opened image ≡ opened before)) new
+KeepsOpened (Some old) new =
+    EachImage (λ image. (before : List ℕ) × IsImage old before × (opened image ≡ opened before)) new
 
 -- each byte reads as before, but that a gate that was open may be closed
 abbrev pub ClosesGates : Option File → Option File → Type 0
@@ -64,13 +67,15 @@ ClosesGates None new = Unit {0}
 ClosesGates (Some old) None = ⊥
 ClosesGates (Some old) (Some new) =
     (length new.bytes ≡ length old.bytes)
-    × ((i : ℕ) → (slice_index new.bytes i ≡ slice_index old.bytes i) ⊎ ((slice_index old.bytes i ≡ OPEN) × (slice_index new.bytes i ≡ 0)))
+    × ((i : ℕ) → (slice_index new.bytes i ≡ slice_index old.bytes i)
+    ⊎ ((slice_index old.bytes i ≡ OPEN) × (slice_index new.bytes i ≡ 0)))
 
 -- the bytes are the image of an entry
 abbrev pub IsEntryImage : List ℕ → Type 0
 IsEntryImage bytes = (e : Entry) × HasImage e × (bytes ≡ entry_image e)
 
--- `force` of n bytes: Full exactly where there is less room than their record needs; else it is done, or a fault came
+-- `force` of n bytes: Full exactly where there is less room than their record needs; else it is
+-- done, or a fault came
 abbrev pub IsForceAnswer : ℕ → Db → Result ℕ TransdbError → Type 0
 IsForceAnswer n db (Ok number) = (HEAD + n ≤ room_of db) × (number ≡ db.active.next)
 IsForceAnswer n db (Err (Full need room)) = (need ≡ HEAD + n) × (room ≡ room_of db) × (room < need)
@@ -87,7 +92,9 @@ HoldsAll db entries file = EachImage (Holds db.header entries) file
 
 -- or these and one more
 abbrev pub HoldsAllOrMore : Db → List Entry → Entry → Option File → Type 0
-HoldsAllOrMore db entries e file = EachImage (λ image. Holds db.header entries image ⊎ Holds db.header (entries ++ e ∷ []) image) file
+HoldsAllOrMore db entries e file =
+    let more = entries ++ e ∷ [] in
+    EachImage (λ image. Holds db.header entries image ⊎ Holds db.header more image) file
 
 -- behind the gate of the next record stand the length, the number and the payload, on the disk
 pub record HasRecord (db : Db) (payload : List ℕ) (bytes : List ℕ) : Type 0 where
@@ -95,9 +102,10 @@ pub record HasRecord (db : Db) (payload : List ℕ) (bytes : List ℕ) : Type 0 
   pub number : number_at db.active.place bytes ≡ db.active.next
   pub payload_is : payload_at db.active.place bytes ≡ payload
 
--- The file's count rose when the whole record but its gate was on the disk; until then each image held just the entries before, and
--- from then on no other byte than the gate may have changed
-pub record RoseAtGate (db : Db) (entries : List Entry) (payload : List ℕ) (old new : World) : Type 0 where
+-- The file's count rose when the whole record but its gate was on the disk; until then each image
+-- held just the entries before, and from then on no other byte than the gate may have changed
+pub record RoseAtGate (db : Db) (entries : List Entry) (payload : List ℕ) (old new : World)
+    : Type 0 where
   pub mid : World
   pub before : Runs 0 (HoldsAll db entries) old mid
   pub body : EachImage (HasRecord db payload) (file_of 0 mid)

@@ -13,14 +13,16 @@ state_byte Live = 1
 state_byte Dirty = 2
 state_byte Clean = 3
 
--- The format in 2 bytes, the size of a side in KiB in 2, the active side in 1, the state of the other in 1, the first numbers of
--- side 0 and of side 1 in 8 each, and 18 zeros. Numbers are big-endian
+-- The format in 2 bytes, the size of a side in KiB in 2, the active side in 1, the state of the
+-- other in 1, the first numbers of side 0 and of side 1 in 8 each, and 18 zeros. Numbers are
+-- big-endian
 unfoldable pub header_image : Header → List ℕ
 header_image h =
     to_be_bytes w16 h.format ++ to_be_bytes w16 h.side_kib ++ (h.active ∷ state_byte h.other ∷ [])
     ++ to_be_bytes w64 h.first0 ++ to_be_bytes w64 h.first1 ++ replicate 18 0
 
--- format 1, sides of 64 to 16,384 KiB, side 0 or 1, and first numbers from 1 to one more than a history may have entries
+-- format 1, sides of 64 to 16,384 KiB, side 0 or 1, and first numbers from 1 to one more than a
+-- history may have entries
 abbrev pub is_header : Header → Bool
 is_header h =
     (h.format == 1) && is_in_range 64 16384 h.side_kib && is_in_range 0 1 h.active
@@ -84,7 +86,8 @@ active_first h = first_on h h.active
 abbrev pub other_of : Header → ℕ
 other_of h = if h.active == 0 then 1 else 0
 
--- the number of the first entry held: the first of the Live side, or of the active side where none is Live
+-- the number of the first entry held: the first of the Live side, or of the active side where none
+-- is Live
 abbrev pub first_by : Header → OtherSide → ℕ
 first_by h Live = first_on h (other_of h)
 first_by h Dirty = active_first h
@@ -95,4 +98,5 @@ first_held h = first_by h h.other
 
 -- what a new database has: side 0 active, side 1 clean, and both first numbers 1
 abbrev pub new_header : ℕ → Header
-new_header kib = record { format = 1; side_kib = kib; active = 0; other = Clean; first0 = 1; first1 = 1 }
+new_header kib =
+    record { format = 1; side_kib = kib; active = 0; other = Clean; first0 = 1; first1 = 1 }

@@ -5,3 +5,4 @@ pub mod Answers
 pub mod Steps
 pub mod Walking
 pub mod Opening
+pub mod Worlds

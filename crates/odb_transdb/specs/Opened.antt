@@ -1,5 +1,5 @@
 -- What the bytes of file 0 stand for: no database, damage at a place, or the entries of a TRANSDB.
-use Rattle.std.specs.Prelude.{◌≡◌, ℕ, ◌+◌, not, ◌==◌, nat_lt, List, [], ◌∷◌, ◌++◌, length, position, Option, Some, None, Result, Ok, Err, if◌then◌else◌}
+use Rattle.std.specs.Prelude.{◌≡◌, ℕ, ◌+◌, not, ◌==◌, nat_lt, List, [], ◌∷◌, ◌++◌, length, position, option_map, Option, Some, None, Result, Ok, Err, if◌then◌else◌}
 use Rattle.odb_device.specs.World.{File}
 use Rattle.odb_device.specs.Images.{part}
 use Rattle.odb_pair.specs.Places.{Opened as PairOpened, no_open_place, malformed, holding as holding_value, opened as pair_opened}
@@ -20,8 +20,8 @@ pub data Opened : Type 0 where
 abbrev pub side_list : Header → ℕ → List ℕ → List (List ℕ)
 side_list h side bytes = log_of (side_start h side) (side_end h side) (first_on h side) bytes
 
--- The entries that payloads are the images of, the first of which has this number and whose record stands at this place; or the
--- place of the first record whose payload is no image
+-- The entries that payloads are the images of, the first of which has this number and whose record
+-- stands at this place; or the place of the first record whose payload is no image
 abbrev pub one_more : Entry → Result (List Entry) ℕ → Result (List Entry) ℕ
 one_more e (Ok entries) = Ok (e ∷ entries)
 one_more e (Err at) = Err at
@@ -33,10 +33,12 @@ read_first place (Err left) rest = Err place
 abbrev pub entries_from : ℕ → ℕ → List (List ℕ) → Result (List Entry) ℕ
 entries_from number place [] = Ok []
 entries_from number place (payload ∷ rest) =
-    read_first place (read_entry number payload) (entries_from (number + 1) (place + HEAD + length payload) rest)
+    read_first place (read_entry number payload)
+    (entries_from (number + 1) (place + HEAD + length payload) rest)
 
 abbrev pub side_entries : Header → ℕ → List ℕ → Result (List Entry) ℕ
-side_entries h side bytes = entries_from (first_on h side) (side_start h side) (side_list h side bytes)
+side_entries h side bytes =
+    entries_from (first_on h side) (side_start h side) (side_list h side bytes)
 
 -- those of one side and then those of the other; the first that is no image decides
 abbrev pub joined : Result (List Entry) ℕ → Result (List Entry) ℕ → Result (List Entry) ℕ
@@ -50,13 +52,20 @@ with_entries h (Err at) = damaged at
 
 -- the least byte of a side that isn't zero
 abbrev pub first_other : Header → ℕ → List ℕ → Option ℕ
-first_other h side bytes = position (λ b. not (b == 0)) (part (side_start h side) (side_size h) bytes)
+first_other h side bytes =
+    position (λ b. not (b == 0)) (part (side_start h side) (side_size h) bytes)
+
+-- and its place from the file's start, on the side that isn't active
+abbrev pub first_other_place : Header → List ℕ → Option ℕ
+first_other_place h bytes =
+    option_map (λ n. side_start h (other_of h) + n) (first_other h (other_of h) bytes)
 
 abbrev pub with_clean : Header → Option ℕ → List ℕ → Opened
 with_clean h (Some n) bytes = damaged (side_start h (other_of h) + n)
 with_clean h None bytes = with_entries h (side_entries h h.active bytes)
 
--- The entries of a Live side and of the active one: the list of the Live side ends right before the first number of the active one
+-- The entries of a Live side and of the active one: the list of the Live side ends right before the
+-- first number of the active one
 abbrev pub with_live : Header → List (List ℕ) → List ℕ → Opened
 with_live h live bytes =
     if first_on h (other_of h) + length live == active_first h
@@ -71,15 +80,19 @@ with_sides h Live bytes = with_live h (side_list h (other_of h) bytes) bytes
 
 abbrev pub with_header : Option Header → List ℕ → Opened
 with_header None bytes = damaged 0
-with_header (Some h) bytes = if nat_lt (length bytes) (file_size h) then damaged (length bytes) else with_sides h h.other bytes
+with_header (Some h) bytes =
+    if nat_lt (length bytes) (file_size h)
+    then damaged (length bytes)
+    else with_sides h h.other bytes
 
 abbrev pub with_pair : PairOpened → List ℕ → Opened
 with_pair no_open_place bytes = no_database
 with_pair malformed bytes = damaged 0
 with_pair (holding_value value) bytes = with_header (header_of value) bytes
 
--- The first of these decides: whether the pair has an open place, whether it is in order and holds a lawful header, whether the
--- file is long enough, what the other side has to be, and whether each payload is the image of an entry
+-- The first of these decides: whether the pair has an open place, whether it is in order and holds
+-- a lawful header, whether the file is long enough, what the other side has to be, and whether each
+-- payload is the image of an entry
 unfoldable pub opened : List ℕ → Opened
 opened bytes = with_pair (pair_opened bytes) bytes
 

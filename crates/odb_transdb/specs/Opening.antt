@@ -2,7 +2,7 @@
 use Rattle.std.specs.Prelude.{◌≡◌, ◌≢◌, ℕ, ◌+◌, ◌-◌, ◌<◌, ◌≤◌, List, length, slice_index, EachIndex, Option, Some, None, Result, Ok, Err}
 use Rattle.odb_device.specs.World.{File}
 use Rattle.odb_pair.specs.Places.{Opened as PairOpened, no_open_place, malformed, holding as holding_value}
-use Rattle.odb_pair.specs.Standing.{Kept}
+use Rattle.odb_pair.specs.Standing.{PairState}
 use Rattle.odb_reclog.specs.Records.{end_of_list}
 use Rattle.odb_reclog.specs.Moments.{KeepsLists}
 use Rattle.odb_reclog.specs.Standing.{Log}
@@ -15,7 +15,7 @@ use Rattle.odb_transdb.specs.Opened.{Opened, damaged, side_list, first_other}
 use Rattle.odb_transdb.specs.Standing.{IsLiveBy}
 
 -- the pair that the bytes hold
-abbrev pub IsPairFound : Result Kept TransdbError → PairOpened → Type 0
+abbrev pub IsPairFound : Result PairState TransdbError → PairOpened → Type 0
 IsPairFound (Ok pair) what = what ≡ holding_value pair.value
 IsPairFound (Err NoDatabase) what = what ≡ no_open_place
 IsPairFound (Err (Damaged at)) what = (at ≡ 0) × (what ≡ malformed)
@@ -43,11 +43,16 @@ pub record IsChecked (h : Header) (bytes : List ℕ) : Type 0 where
 
 -- a Live side ends right before the active one begins
 abbrev pub EndsRight : Header → List ℕ → Type 0
-EndsRight h bytes = h.other ≡ Live → first_on h (other_of h) + length (side_list h (other_of h) bytes) ≡ active_first h
+EndsRight h bytes =
+    let other = other_of h in
+    h.other ≡ Live → first_on h other + length (side_list h other bytes) ≡ active_first h
 
 -- each image is one from before but for this side's bytes, and has its list
 abbrev pub KeepsSide : Header → ℕ → Option File → Option File → Type 0
-KeepsSide h side = KeepsLists (side_start h side) (side_end h side) (first_on h side) (side_start h side) (side_end h side - side_start h side)
+KeepsSide h side =
+    let start = side_start h side in
+    let end = side_end h side in
+    KeepsLists start end (first_on h side) start (end - start)
 
 -- the log of the other side, where that is Live
 abbrev pub IsLiveLog : Header → Option Log → Type 0
@@ -56,7 +61,9 @@ IsLiveLog h live = (active : Log) → active.first ≡ active_first h → IsLive
 -- the index of the first byte that isn't zero
 abbrev pub IsFirstOther : List ℕ → Option ℕ → Type 0
 IsFirstOther bytes None = EachIndex bytes (λ k. slice_index bytes k ≡ 0)
-IsFirstOther bytes (Some n) = (n < length bytes) × (slice_index bytes n ≢ 0) × ((k : ℕ) → k < n → slice_index bytes k ≡ 0)
+IsFirstOther bytes (Some n) =
+    (n < length bytes) × (slice_index bytes n ≢ 0)
+    × ((k : ℕ) → k < n → slice_index bytes k ≡ 0)
 
 -- the log goes on where the list of this side ends
 pub record GoesOn (h : Header) (side : ℕ) (bytes : List ℕ) (log : Log) : Type 0 where

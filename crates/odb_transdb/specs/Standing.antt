@@ -1,20 +1,23 @@
 -- A TRANSDB in memory and the bytes of its file.
-use Rattle.std.specs.Prelude.{◌≡◌, ℕ, ◌+◌, ◌-◌, ◌≤◌, true, false, List, length, Option, Some, None, IfSome, IsTrue}
+use Rattle.std.specs.Prelude.{◌≡◌, ℕ, ◌+◌, ◌-◌, ◌≤◌, true, false, List, length, drop, Option, Some, None, IfSome, IsTrue}
 use Rattle.odb_device.specs.World.{File}
 use Rattle.odb_device.specs.Images.{EachImage}
-use Rattle.odb_pair.specs.Standing.{Kept, StandsFor as PairStandsFor}
+use Rattle.odb_pair.specs.Standing.{PairState, StandsFor as PairStandsFor}
 use Rattle.odb_reclog.specs.Standing.{Log, Stands as LogStands}
 use Rattle.odb_model.specs.declared.entry.Entry.{Entry}
 use Rattle.odb_model.specs.declared.side.OtherSide.{OtherSide}
 use Rattle.odb_model.specs.declared.side.OtherSide.TheVariants.{Live, Dirty, Clean}
+use Rattle.odb_model.specs.State.{IsNumberedFrom}
+use Rattle.odb_model.specs.Width.{records_width}
 use Rattle.odb_transdb.specs.declared.header.Header.{Header}
-use Rattle.odb_transdb.specs.Header.{header_image, is_header, side_start, side_end, first_on, first_held, other_of}
+use Rattle.odb_transdb.specs.Header.{header_image, is_header, side_start, side_end, first_on, active_first, first_held, other_of}
 use Rattle.odb_transdb.specs.Opened.{Holds, entries_in}
 
--- Its header, the pair that keeps it, the log of the active side, and that of the other side where it is Live.
+-- Its header, the pair that keeps it, the log of the active side, and that of the other side where
+-- it is Live.
 pub record Db : Type 0 where
   pub header : Header
-  pub pair : Kept
+  pub pair : PairState
   pub active : Log
   pub live : Option Log
 
@@ -25,9 +28,11 @@ pub record IsOfSide (h : Header) (side : ℕ) (log : Log) : Type 0 where
   pub end : log.end ≡ side_end h side
   pub first : log.first ≡ first_on h side
 
--- there is a log of the other side just where it is Live; then it ends right before the active one begins
+-- there is a log of the other side just where it is Live; then it ends right before the active one
+-- begins
 abbrev pub IsLiveBy : Header → OtherSide → Option Log → Log → Type 0
-IsLiveBy h Live (Some log) active = IsOfSide h (other_of h) log × (log.next ≡ active.first) × (log.in_doubt ≡ false)
+IsLiveBy h Live (Some log) active =
+    IsOfSide h (other_of h) log × (log.next ≡ active.first) × (log.in_doubt ≡ false)
 IsLiveBy h Live None active = ⊥
 IsLiveBy h Dirty (Some log) active = ⊥
 IsLiveBy h Dirty None active = Unit {0}
@@ -45,8 +50,8 @@ pub record IsDb (db : Db) : Type 0 where
   pub from : first_on db.header db.header.active ≤ db.active.next
   pub live : IsLiveBy db.header db.header.other db.live db.active
 
--- Where the active side lies, of whatever file: its next record stands in it, and its number isn't below
--- that of the side's first, which is 1 or more
+-- Where the active side lies, of whatever file: its next record stands in it, and its number isn't
+-- below that of the side's first, which is 1 or more
 pub record IsPlaced (db : Db) : Type 0 where
   pub side : IsOfSide db.header db.header.active db.active
   pub place : db.active.start ≤ db.active.place
@@ -58,8 +63,8 @@ pub record StandsFor (db : Db) (entries : List Entry) (bytes : List ℕ) : Type 
   pub pair : PairStandsFor db.pair bytes
   pub holds : Holds db.header entries bytes
 
--- Each image holds the entries that a read gives, which end where the next record's number begins, and each log stands for its
--- side. Of a file that isn't told this says nothing
+-- Each image holds the entries that a read gives, which end where the next record's number begins,
+-- and each log stands for its side. Of a file that isn't told this says nothing
 abbrev pub Stands : Db → Option File → Type 0
 Stands db None = Unit {0}
 Stands db (Some file) =
@@ -78,7 +83,8 @@ pub record IsAdvanced (n : ℕ) (old new : Db) : Type 0 where
   pub place : new.active.place ≡ old.active.place + n
   pub usable : new.active.in_doubt ≡ false
 
--- after a call that failed before the gate: the entries are as before and stand, and the place and the number of the next record too
+-- after a call that failed before the gate: the entries are as before and stand, and the place and
+-- the number of the next record too
 pub record IsSettledIn (before after : Option File) (old new : Db) : Type 0 where
   pub stands : Stands new after
   pub entries : entries_in after ≡ entries_in before
@@ -86,3 +92,34 @@ pub record IsSettledIn (before after : Option File) (old new : Db) : Type 0 wher
   pub next : new.active.next ≡ old.active.next
   pub place : new.active.place ≡ old.active.place
   pub usable : new.active.in_doubt ≡ false
+
+-- the place and the number of the next record are as before
+abbrev pub SamePlace : Db → Db → Type 0
+SamePlace old new = (new.active.next ≡ old.active.next) × (new.active.place ≡ old.active.place)
+
+-- the entries are all that the log of commits holds, in order, as its numbers say
+abbrev pub AreAllOf : Db → List Entry → Type 0
+AreAllOf db entries =
+    IsNumberedFrom (first_held db.header) entries
+    × (first_held db.header + length entries ≡ db.active.next)
+
+-- the records of those of them that the active side holds fill it up to the next record's place
+abbrev pub FillActive : Db → List Entry → Type 0
+FillActive db entries =
+    records_width (drop (active_first db.header - first_held db.header) entries)
+    ≡ db.active.place - db.active.start
+
+-- the logs of the active side and of the other one, under a lawful header
+pub record AreSides (h : Header) (live : Option Log) (active : Log) : Type 0 where
+  pub lawful : IsTrue (is_header h)
+  pub side : IsOfSide h h.active active
+  pub other : IsLiveBy h h.other live active
+  pub least : first_on h h.active ≤ active.next
+
+-- The entries from a number on go to the last one held, and the records of those on the active side
+-- to the place of the next one
+pub record AreWhole (db : Db) (from : ℕ) (entries : List Entry) : Type 0 where
+  pub count : from ≤ db.active.next → from + length entries ≡ db.active.next
+  pub width : from ≤ active_first db.header
+      → records_width (drop (active_first db.header - from) entries)
+      ≡ db.active.place - db.active.start

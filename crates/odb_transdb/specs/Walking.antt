@@ -1,5 +1,7 @@
 -- What the walk over the records of a side finds.
-use Rattle.std.specs.Prelude.{◌≡◌, ◌≢◌, ℕ, ◌+◌, ◌≤◌, max, List, [], ◌++◌, length, Option, Some, Result, Ok, Err}
+use Rattle.std.specs.Prelude.{◌≡◌, ◌≢◌, ℕ, ◌+◌, ◌-◌, ◌≤◌, max, List, [], ◌++◌, length, Option, Some, Result, Ok, Err}
+use Rattle.odb_reclog.specs.Records.{log_of, end_of_list, record_in}
+use Rattle.odb_reclog.specs.Standing.{Log}
 use Rattle.odb_reclog.specs.declared.record.LogRecord.{LogRecord}
 use Rattle.odb_codec.specs.Reading.{read_entry}
 use Rattle.odb_model.specs.declared.entry.Entry.{Entry}
@@ -10,8 +12,8 @@ use Rattle.odb_model.specs.Width.{record_width, records_width}
 use Rattle.odb_transdb.specs.declared.header.Header.{Header}
 use Rattle.odb_transdb.specs.declared.error.TransdbError.{TransdbError}
 use Rattle.odb_transdb.specs.declared.error.TransdbError.TheVariants.{NoDatabase, Damaged, Full, FaultBefore, InDoubt, Fault, NoMemory}
-use Rattle.odb_transdb.specs.Header.{other_of}
-use Rattle.odb_transdb.specs.Opened.{side_entries, joined}
+use Rattle.odb_transdb.specs.Header.{side_start, first_on, other_of}
+use Rattle.odb_transdb.specs.Opened.{entries_from, side_entries, joined}
 
 -- the entries of the other side where it is Live
 abbrev pub live_read : Header → OtherSide → List ℕ → Result (List Entry) ℕ
@@ -23,8 +25,19 @@ live_read h Clean bytes = Ok []
 abbrev pub sides_read : Header → List ℕ → Result (List Entry) ℕ
 sides_read h bytes = joined (live_read h h.other bytes) (side_entries h h.active bytes)
 
+-- the entries of the list of a log, or the place of the first record that is none
+abbrev pub log_entries : Log → List ℕ → Result (List Entry) ℕ
+log_entries log bytes =
+    entries_from log.first log.start (log_of log.start log.end log.first bytes)
+
+-- the record that this list has at a place
+abbrev pub log_record : Log → ℕ → List ℕ → Option LogRecord
+log_record log at bytes =
+    record_in log.start log.first (log_of log.start log.end log.first bytes) at
+
 -- P of all the entries that are read, or the place of the first record that is none
-abbrev pub IsReadOf : {T : Type 0} → (List Entry → T → Type 0) → Result (List Entry) ℕ → Result T TransdbError → Type 0
+abbrev pub IsReadOf : {T : Type 0}
+    → (List Entry → T → Type 0) → Result (List Entry) ℕ → Result T TransdbError → Type 0
 IsReadOf P read (Ok x) = (all : List Entry) × (read ≡ Ok all) × P all x
 IsReadOf P read (Err (Damaged at)) = read ≡ Err at
 IsReadOf P read (Err Fault) = Unit {0}
@@ -37,7 +50,8 @@ IsReadOf P read (Err (InDoubt number)) = ⊥
 -- the record of this number that a list has at a place
 abbrev pub IsRecordOf : Option LogRecord → ℕ → ℕ → Result LogRecord TransdbError → Type 0
 IsRecordOf found at number (Ok r) = (found ≡ Some r) × (r.number ≡ number)
-IsRecordOf found at number (Err (Damaged place)) = (place ≡ at) × ((r : LogRecord) → found ≡ Some r → r.number ≢ number)
+IsRecordOf found at number (Err (Damaged place)) =
+    (place ≡ at) × ((r : LogRecord) → found ≡ Some r → r.number ≢ number)
 IsRecordOf found at number (Err Fault) = Unit {0}
 IsRecordOf found at number (Err NoMemory) = Unit {0}
 IsRecordOf found at number (Err NoDatabase) = ⊥
@@ -47,8 +61,11 @@ IsRecordOf found at number (Err (InDoubt other)) = ⊥
 
 -- the entry that the payload is the image of
 abbrev pub IsEntryOf : ℕ → List ℕ → ℕ → Result Entry TransdbError → Type 0
-IsEntryOf number payload at (Ok e) = (read_entry number payload ≡ Ok e) × (e.number ≡ number) × (record_width e ≡ 13 + length payload)
-IsEntryOf number payload at (Err (Damaged place)) = (place ≡ at) × ((left : ℕ) × (read_entry number payload ≡ Err left))
+IsEntryOf number payload at (Ok e) =
+    (read_entry number payload ≡ Ok e) × (e.number ≡ number)
+    × (record_width e ≡ 13 + length payload)
+IsEntryOf number payload at (Err (Damaged place)) =
+    (place ≡ at) × ((left : ℕ) × (read_entry number payload ≡ Err left))
 IsEntryOf number payload at (Err NoMemory) = Unit {0}
 IsEntryOf number payload at (Err Fault) = ⊥
 IsEntryOf number payload at (Err NoDatabase) = ⊥
@@ -56,7 +73,8 @@ IsEntryOf number payload at (Err (Full need room)) = ⊥
 IsEntryOf number payload at (Err FaultBefore) = ⊥
 IsEntryOf number payload at (Err (InDoubt other)) = ⊥
 
--- entries of a side that has records from the number `first` to before `next`, of which those from `from` on are taken
+-- entries of a side that has records from the number `first` to before `next`, of which those from
+-- `from` on are taken
 pub record IsPart (from first next bytes : ℕ) (more : List Entry) : Type 0 where
   pub numbers : IsNumberedFrom (max from first) more
   pub count : max from first + length more ≡ max from next
@@ -64,4 +82,25 @@ pub record IsPart (from first next bytes : ℕ) (more : List Entry) : Type 0 whe
 
 -- such entries come behind those before
 abbrev pub AddsPart : ℕ → ℕ → ℕ → ℕ → List Entry → List Entry → Type 0
-AddsPart from first next bytes old new = (more : List Entry) × (new ≡ old ++ more) × IsPart from first next bytes more
+AddsPart from first next bytes old new =
+    (more : List Entry) × (new ≡ old ++ more) × IsPart from first next bytes more
+
+-- the entries of these payloads of a side come behind those before
+abbrev pub AddsPayloads : Header → ℕ → List (List ℕ) → List Entry → List Entry → Type 0
+AddsPayloads h side payloads =
+    let first = first_on h side in
+    let start = side_start h side in
+    AddsPart first first (first + length payloads) (end_of_list start payloads - start)
+
+-- some of them, up to a number before the end
+abbrev pub AddsSome : ℕ → ℕ → ℕ → List Entry → List Entry → Type 0
+AddsSome from first next old new =
+    (n bytes : ℕ) × (n ≤ max first next) × AddsPart from first n bytes old new
+
+-- the entries from a number on, in order, up to before the number `next`
+abbrev pub AreUpTo : ℕ → ℕ → List Entry → Type 0
+AreUpTo from next entries = IsNumberedFrom from entries × (from + length entries ≡ max from next)
+
+-- or a front of these
+abbrev pub AreSome : ℕ → ℕ → List Entry → Type 0
+AreSome from next entries = IsNumberedFrom from entries × (from + length entries ≤ max from next)

@@ -1,9 +1,8 @@
-// How a commit becomes durable.
+//! How a commit becomes durable.
 ghost use Rattle.std.specs.Prelude.{◌≡◌, ℕ, ◌+◌, ◌≤◌, List, [], ◌∷◌, ◌++◌, true, false, length, Ok, Err, IfOk, OnOk, OnErr, Some, IfSome};
 ghost use Rattle.odb_device.specs.World.{file_of};
-ghost use Rattle.odb_device.specs.Images.{TornFrom};
 ghost use Rattle.odb_device.specs.Calls.{FileCountRose};
-ghost use Rattle.odb_device.specs.Moments.{Runs};
+ghost use Rattle.odb_reclog.specs.Told.{IfTold, TearsOnly};
 ghost use Rattle.odb_reclog.specs.Records.{payload_at};
 ghost use Rattle.odb_reclog.specs.Standing.{HasItsBody};
 ghost use Rattle.odb_codec.specs.Reading.{read_entry};
@@ -16,41 +15,51 @@ use odb_reclog::RecError;
 
 impl Transdb {
     ghost use Rattle.odb_transdb.specs.Opened.{entries_in};
-    ghost use Rattle.odb_transdb.specs.Standing.{Stands, IsAdvanced, IsPlaced, IsSettledIn};
-    ghost use Rattle.odb_transdb.specs.Steps.{IsWritten};
-    ghost use Rattle.odb_transdb.specs.Answers.{IsEntryImage, IsForceAnswer, HoldsAll, HoldsAllOrMore, RoseAtGate};
+    ghost use Rattle.odb_transdb.specs.Standing.{Stands, IsAdvanced, IsPlaced, SamePlace};
+    ghost use Rattle.odb_transdb.specs.Answers.{IsEntryImage, IsForceAnswer, RoseAtGate};
+    ghost use Rattle.odb_transdb.specs.Worlds.{KeepsEntries, KeepsOrAddsEntry, AddsEntry, Settles, IsWrittenIn};
 
     /// Adds an entry, whose image these bytes are, and answers its number once it is on the disk.
     ///
-    /// It writes the record behind its closed gate, syncs, opens the gate and syncs: three writes and two syncs, and no read, where
-    /// the tail of the active side is clear. It is so after each Ok; after opening and after `FaultBefore` it is cleared first, which
-    /// reads the rest of the side once, or writes what a broken record may have left, with one sync more where it wrote.
+    /// It writes the record behind its closed gate, syncs, opens the gate and syncs: three writes
+    /// and two syncs, and no read, where the tail of the active side is clear. It is so after each
+    /// Ok; after opening and after `FaultBefore` it is cleared first, which reads the rest of the
+    /// side once, or writes what a broken record may have left, with one sync more where it wrote.
     ///
-    /// At each moment a crash leaves the entries before, or those and this one; after Ok the latter.
+    /// At each moment a crash leaves the entries before, or those and this one; after Ok the
+    /// latter.
     ///
     /// - `Full`: the record needs more bytes than the side has left. No call of the store was made.
-    /// - `FaultBefore`: a call of the store failed before the gate was written, and the entry isn't there. The call may be made again.
-    /// - `InDoubt`: one failed from the writing of the gate on, and a crash leaves the entry or not. Only a new opening, and the
-    ///   calls that take no store, may follow.
+    /// - `FaultBefore`: a call of the store failed before the gate was written, and the entry isn't
+    ///   there. The call may be made again.
+    /// - `InDoubt`: one failed from the writing of the gate on, and a crash leaves the entry or
+    ///   not. Only a new opening, and the calls that take no store, may follow.
     pub fn force<S: Store>(&mut self, store: &mut S, payload: &[u8]) -> Result<u64, TransdbError>
         requires usable { self.old.active.in_doubt ≡ false }
         requires payload { IsEntryImage payload.now }
         requires stands { Stands self.old (file_of 0 (S.world store.old)) }
         ensures answer { IsForceAnswer (length payload.now) self.old result }
         ensures run { (e : Entry) → read_entry self.old.active.next payload.now ≡ Ok e
-            → Runs 0 (HoldsAllOrMore self.old (entries_in (file_of 0 (S.world store.old))) e) (S.world store.old) (S.world store.new) }
+            → KeepsOrAddsEntry self.old e (S.world store.old) (S.world store.new) }
         ensures entries { (e : Entry) → read_entry self.old.active.next payload.now ≡ Ok e
-            → OnOk result (IfSome (file_of 0 (S.world store.new)) (λ f. entries_in (Some f) ≡ entries_in (file_of 0 (S.world store.old)) ++ e ∷ [])) }
+            → OnOk result (AddsEntry e (S.world store.old) (S.world store.new)) }
         ensures stands { OnOk result (Stands self.new (file_of 0 (S.world store.new))) }
         ensures ok { OnOk result (IsAdvanced (13 + length payload.now) self.old self.new) }
-        ensures full { (need room : ℕ) → result ≡ Err (TransdbError.Full need room) → (self.new ≡ self.old) × (store.new ≡ store.old) }
-        ensures before { result ≡ Err TransdbError.FaultBefore → Runs 0 (HoldsAll self.old (entries_in (file_of 0 (S.world store.old)))) (S.world store.old) (S.world store.new) }
-        ensures kept { result ≡ Err TransdbError.FaultBefore → IsSettledIn (file_of 0 (S.world store.old)) (file_of 0 (S.world store.new)) self.old self.new }
-        ensures fault { result ≡ Err TransdbError.FaultBefore → FileCountRose 0 (S.world store.old) (S.world store.new) }
-        ensures doubt { (number : ℕ) → result ≡ Err (TransdbError.InDoubt number) → RoseAtGate self.old (entries_in (file_of 0 (S.world store.old))) payload.now (S.world store.old) (S.world store.new) }
+        ensures full { (need room : ℕ) → result ≡ Err (TransdbError.Full need room)
+            → (self.new ≡ self.old) × (store.new ≡ store.old) }
+        ensures before { result ≡ Err TransdbError.FaultBefore
+            → KeepsEntries self.old (S.world store.old) (S.world store.new) }
+        ensures kept { result ≡ Err TransdbError.FaultBefore
+            → Settles self.old self.new (S.world store.old) (S.world store.new) }
+        ensures fault { result ≡ Err TransdbError.FaultBefore
+            → FileCountRose 0 (S.world store.old) (S.world store.new) }
+        ensures doubt { (number : ℕ) → result ≡ Err (TransdbError.InDoubt number)
+            → RoseAtGate self.old (entries_in (file_of 0 (S.world store.old))) payload.now
+            (S.world store.old) (S.world store.new) }
         ensures same { self.new.header ≡ self.old.header }
         ensures placed { IsPlaced self.old × IsPlaced self.new }
-        ensures numbers { (number : ℕ) → result ≡ Err (TransdbError.InDoubt number) → (self.new.active.next ≡ self.old.active.next) × (self.new.active.place ≡ self.old.active.place) }
+        ensures numbers { (number : ℕ) → result ≡ Err (TransdbError.InDoubt number)
+            → SamePlace self.old self.new }
     {
         let need = HEAD_SIZE + payload.len() as u64;
         let room = self.active.room();
@@ -72,11 +81,14 @@ impl Transdb {
         requires usable { self.old.active.in_doubt ≡ false }
         requires fits { self.old.active.place + 13 + length payload.now ≤ self.old.active.end }
         requires stands { Stands self.old (file_of 0 (S.world store.old)) }
-        ensures run { Runs 0 (HoldsAll self.old (entries_in (file_of 0 (S.world store.old)))) (S.world store.old) (S.world store.new) }
-        ensures settled { IsSettledIn (file_of 0 (S.world store.old)) (file_of 0 (S.world store.new)) self.old self.new }
-        ensures body { OnOk result ((self.new.active.has_body ≡ true) × HasItsBody self.new.active (file_of 0 (S.world store.new))) }
-        ensures payload { OnOk result (IfSome (file_of 0 (S.world store.new)) (λ f. payload_at self.new.active.place f.bytes ≡ payload.now)) }
-        ensures behind { OnOk result (self.new.active.clear_from ≡ self.old.active.place + 13 + length payload.now) }
+        ensures run { KeepsEntries self.old (S.world store.old) (S.world store.new) }
+        ensures settled { Settles self.old self.new (S.world store.old) (S.world store.new) }
+        ensures body { OnOk result ((self.new.active.has_body ≡ true)
+            × HasItsBody self.new.active (file_of 0 (S.world store.new))) }
+        ensures payload { OnOk result (IfTold 0 (S.world store.new)
+            (λ bytes. payload_at self.new.active.place bytes ≡ payload.now)) }
+        ensures behind { OnOk result (self.new.active.clear_from
+            ≡ self.old.active.place + 13 + length payload.now) }
         ensures end { self.new.active.end ≡ self.old.active.end }
         ensures placed { IsPlaced self.new }
         ensures cause { OnErr result (FileCountRose 0 (S.world store.old) (S.world store.new)) }
@@ -85,7 +97,8 @@ impl Transdb {
         self.active.write_body(store, payload)
     }
 
-    /// Opens the gate of the record that was written, which counts then, and answers its number: on the disk after Ok.
+    /// Opens the gate of the record that was written, which counts then, and answers its number: on
+    /// the disk after Ok.
     fn open_gate<S: Store>(&mut self, store: &mut S) -> Result<u64, RecError>
         requires usable { self.old.active.in_doubt ≡ false }
         requires room { self.old.active.place + 13 ≤ self.old.active.end }
@@ -93,15 +106,18 @@ impl Transdb {
         requires written { self.old.active.has_body ≡ true }
         requires body { HasItsBody self.old.active (file_of 0 (S.world store.old)) }
         requires stands { Stands self.old (file_of 0 (S.world store.old)) }
-        ensures run { (e : Entry) → IsWritten self.old e (file_of 0 (S.world store.old))
-            → Runs 0 (HoldsAllOrMore self.old (entries_in (file_of 0 (S.world store.old))) e) (S.world store.old) (S.world store.new) }
-        ensures only { Runs 0 (TornFrom self.old.active.place 1 (file_of 0 (S.world store.old))) (S.world store.old) (S.world store.new) }
-        ensures entries { (e : Entry) → IsWritten self.old e (file_of 0 (S.world store.old))
-            → OnOk result (IfSome (file_of 0 (S.world store.new)) (λ f. entries_in (Some f) ≡ entries_in (file_of 0 (S.world store.old)) ++ e ∷ [])) }
-        ensures stands { (e : Entry) → IsWritten self.old e (file_of 0 (S.world store.old)) → OnOk result (Stands self.new (file_of 0 (S.world store.new))) }
+        ensures run { (e : Entry) → IsWrittenIn self.old e (S.world store.old)
+            → KeepsOrAddsEntry self.old e (S.world store.old) (S.world store.new) }
+        ensures only { TearsOnly 0 self.old.active.place 1 (S.world store.old) (S.world store.new) }
+        ensures entries { (e : Entry) → IsWrittenIn self.old e (S.world store.old)
+            → OnOk result (AddsEntry e (S.world store.old) (S.world store.new)) }
+        ensures stands { (e : Entry) → IsWrittenIn self.old e (S.world store.old)
+            → OnOk result (Stands self.new (file_of 0 (S.world store.new))) }
         ensures number { IfOk result (λ n. n ≡ self.old.active.next) }
-        ensures ok { OnOk result ((self.new.active.next ≡ self.old.active.next + 1) × (self.new.active.place ≡ self.old.active.clear_from) × (self.new.active.in_doubt ≡ false)) }
-        ensures err { OnErr result ((self.new.active.next ≡ self.old.active.next) × (self.new.active.place ≡ self.old.active.place)) }
+        ensures ok { OnOk result ((self.new.active.next ≡ self.old.active.next + 1)
+            × (self.new.active.place ≡ self.old.active.clear_from)
+            × (self.new.active.in_doubt ≡ false)) }
+        ensures err { OnErr result (SamePlace self.old self.new) }
         ensures same { self.new.header ≡ self.old.header }
         ensures placed { IsPlaced self.new }
         ensures cause { OnErr result (FileCountRose 0 (S.world store.old) (S.world store.new)) }

@@ -1,10 +1,13 @@
-// What the forty bytes of the pair say.
+//! What the forty bytes of the pair say.
 ghost use Rattle.std.specs.Prelude.{◌≡◌, ◌+◌, ◌^◌, ◌≤◌, IsTrue};
 ghost use Rattle.std.specs.Int.{is_in_range};
-ghost use Rattle.odb_transdb.specs.Header.{header_image, header_of, is_header, new_header, side_start, side_size, first_on, first_held, other_of, state_byte, state_of};
+ghost use Rattle.odb_transdb.specs.Header.{header_image, header_of, is_header, new_header, side_start, side_size, file_size, first_on, first_held, other_of, state_byte, state_of};
 
 use byteorder::{BigEndian, ByteOrder};
 use odb_model::OtherSide;
+
+/// The first byte of side 0, behind the pair.
+pub(crate) const SIDES: u64 = 1024;
 
 /// What the two sides of TRANSDB are.
 #[derive(Clone, Copy, Debug, PartialEq, Eq)]
@@ -94,7 +97,14 @@ impl Header {
         requires { side ≤ 1 }
         ensures { result ≡ side_start self.now side }
     {
-        1024 + u64::from(side) * self.side_size()
+        SIDES + u64::from(side) * self.side_size()
+    }
+
+    /// The bytes that the file has at least: those of the pair and of both sides.
+    pub(crate) fn file_size(&self) -> u64
+        ensures { result ≡ file_size self.now }
+    {
+        SIDES + 2 * self.side_size()
     }
 
     /// The bytes of a side.

@@ -1,21 +1,20 @@
-// Opening TRANSDB, with each check that its bytes are in order.
-ghost use Rattle.std.specs.Prelude.{◌≡◌, ◌≢◌, ◌⊎◌, ◌+◌, ◌-◌, ◌<◌, ◌≤◌, ◌++◌, true, false, length, drop, option_map, Some, None, IsTrue, IfSome, IfOk, IfErr, Ok, Err};
+//! Opening TRANSDB, with each check that its bytes are in order.
+ghost use Rattle.std.specs.Prelude.{◌≡◌, ◌≢◌, ◌⊎◌, ℕ, ◌+◌, ◌-◌, ◌<◌, ◌≤◌, ◌++◌, true, false, length, drop, option_map, Some, None, IsTrue, IsSome, IfSome, IfOk, IfErr, Ok, Err};
 ghost use Rattle.odb_device.specs.World.{file_of};
-ghost use Rattle.odb_device.specs.Images.{EachImage, IsKept, TornFrom, part};
+ghost use Rattle.odb_device.specs.Images.{EachImage, IsKept, part};
 ghost use Rattle.odb_device.specs.Calls.{FileCountRose, HasCause, Keeps};
-ghost use Rattle.odb_device.specs.Moments.{Runs};
 ghost use Rattle.odb_pair.specs.Places.{opened as pair_opened, holding as holding_value};
 ghost use Rattle.odb_pair.specs.Standing.{StandsFor as PairStandsFor};
 ghost use Rattle.odb_reclog.specs.Standing.{Stands as LogStands};
+ghost use Rattle.odb_reclog.specs.Told.{IfTold, OnlyReads, TearsOnly};
 ghost use Rattle.odb_model.specs.declared.side.OtherSide.TheVariants.{Live};
-ghost use Rattle.odb_model.specs.State.{IsNumberedFrom};
-ghost use Rattle.odb_model.specs.Width.{records_width};
-ghost use Rattle.odb_transdb.specs.Header.{header_image, is_header, side_start, file_size, other_of, first_held, active_first};
-ghost use Rattle.odb_transdb.specs.Opened.{opened, entries_in, first_other, side_list, side_entries, with_sides, with_header};
-ghost use Rattle.odb_transdb.specs.Standing.{IsOfSide, IsPlaced, Stands};
-ghost use Rattle.odb_transdb.specs.Answers.{IsAnswerBy, IsOpenAnswer, IsFullAnswer, IsOpenRefusal, IsReadRefusal, KeepsOpened, ClosesGates};
+ghost use Rattle.odb_transdb.specs.Header.{header_image, is_header, file_size, other_of, active_first};
+ghost use Rattle.odb_transdb.specs.Opened.{opened, first_other_place, side_list, side_entries, with_sides, with_header};
+ghost use Rattle.odb_transdb.specs.Standing.{IsOfSide, IsPlaced, AreAllOf, FillActive, Stands};
+ghost use Rattle.odb_transdb.specs.Answers.{IsAnswerBy, IsOpenAnswer, IsFullAnswer, IsOpenRefusal, IsReadRefusal};
 ghost use Rattle.odb_transdb.specs.Walking.{live_read, IsReadOf, AddsPart};
-ghost use Rattle.odb_transdb.specs.Opening.{IsPairFound, IsFirstOther, IsUnless, IsChecked, EndsRight, KeepsSide, GoesOn, IsCounted, IsLiveLog};
+ghost use Rattle.odb_transdb.specs.Worlds.{OpensAsBefore, OnlyClosesGates, SameEntries, KeepsSideOf, LeadsToActive};
+ghost use Rattle.odb_transdb.specs.Opening.{IsPairFound, IsFirstOther, IsUnless, IsChecked, EndsRight, GoesOn, IsCounted, IsLiveLog};
 
 use crate::header::Header;
 use crate::reading::add_payloads;
@@ -24,8 +23,8 @@ use crate::{Transdb, TransdbError};
 use odb_device::{Failed, Store};
 use odb_model::{Entries, Entry, OtherSide};
 use odb_pair::{Pair, PairError};
-use odb_reclog::{RecError, RecLog};
-use odb_values::{Bytes, Frozen, List};
+use odb_reclog::{OpenedLog, RecError, RecLog};
+use odb_values::{Frozen, List};
 use std::alloc::Global;
 
 /// How many bytes of a clean side are read by one call.
@@ -36,15 +35,19 @@ impl Transdb {
     ///
     /// It is `open_with_entries`, and costs the same; the entries are dropped.
     pub fn open<S: Store>(alloc: Global, store: &mut S) -> Result<Transdb, TransdbError>
-        ensures answer { IfSome (file_of 0 (S.world store.old)) (λ f. IsOpenAnswer result (opened f.bytes)) }
-        ensures run { Runs 0 (KeepsOpened (file_of 0 (S.world store.old))) (S.world store.old) (S.world store.new) }
-        ensures bytes { result ≢ Err TransdbError.Fault → ClosesGates (file_of 0 (S.world store.old)) (file_of 0 (S.world store.new)) }
-        ensures nothing { result ≡ Err TransdbError.NoDatabase → Keeps 0 (S.world store.old) (S.world store.new) }
+        ensures answer { IfTold 0 (S.world store.old)
+            (λ bytes. IsOpenAnswer result (opened bytes)) }
+        ensures run { OpensAsBefore (S.world store.old) (S.world store.new) }
+        ensures bytes { result ≢ Err TransdbError.Fault
+            → OnlyClosesGates (S.world store.old) (S.world store.new) }
+        ensures nothing { result ≡ Err TransdbError.NoDatabase
+            → Keeps 0 (S.world store.old) (S.world store.new) }
         ensures stands { IfOk result (λ db. Stands db (file_of 0 (S.world store.new))) }
-        ensures entries { IfOk result (λ db. entries_in (file_of 0 (S.world store.new)) ≡ entries_in (file_of 0 (S.world store.old))) }
+        ensures entries { IfOk result (λ _. SameEntries (S.world store.old) (S.world store.new)) }
         ensures usable { IfOk result (λ db. db.active.in_doubt ≡ false) }
         ensures refusal { IsOpenRefusal result }
-        ensures cause { result ≡ Err TransdbError.Fault → FileCountRose 0 (S.world store.old) (S.world store.new) }
+        ensures cause { result ≡ Err TransdbError.Fault
+            → FileCountRose 0 (S.world store.old) (S.world store.new) }
     {
         match Transdb::open_with_entries(alloc, store) {
             Ok((transdb, _entries)) => Ok(transdb),
@@ -52,34 +55,42 @@ impl Transdb {
         }
     }
 
-    /// The TRANSDB that file 0 is as it reads, which is on the disk then, and all of its entries, in order.
+    /// The TRANSDB that file 0 is as it reads, which is on the disk then, and all of its entries,
+    /// in order.
     ///
-    /// It syncs, reads the pair, and goes once over each side that holds entries, after one more sync, in pieces of 65,536 bytes and
-    /// by one read more for each record that lies across the end of a piece. A clean side is read once. Behind the last record of a
-    /// side a gate that is open is closed, by one write and one sync, also where it then refuses: no record is lost by it. It takes
-    /// memory for the entries, and for the records of one side at a time.
+    /// It syncs, reads the pair, and goes once over each side that holds entries, after one more
+    /// sync, in pieces of 65,536 bytes and by one read more for each record that lies across the
+    /// end of a piece. A clean side is read once. Behind the last record of a side a gate that is
+    /// open is closed, by one write and one sync, also where it then refuses: no record is lost by
+    /// it. It takes memory for the entries, and for the records of one side at a time.
     ///
     /// - `NoDatabase`: the pair has no open place.
-    /// - `Damaged`: by the first of these. At 0, the pair is malformed or keeps no lawful header; at the file's length, it is
-    ///   shorter than its sides; at its first byte that isn't zero, a clean side isn't clean; where the records of a live side end,
-    ///   they don't end where the active side begins; at the first record that is no entry.
-    /// - `Fault`: a call of the store failed. `NoMemory`: there is none for the records or the entries.
+    /// - `Damaged`: by the first of these. At 0, the pair is malformed or keeps no lawful header;
+    ///   at the file's length, it is shorter than its sides; at its first byte that isn't zero, a
+    ///   clean side isn't clean; where the records of a live side end, they don't end where the
+    ///   active side begins; at the first record that is no entry.
+    /// - `Fault`: a call of the store failed. `NoMemory`: there is none for the records or the
+    ///   entries.
     pub fn open_with_entries<S: Store>(
         alloc: Global,
         store: &mut S,
     ) -> Result<(Transdb, Entries), TransdbError>
-        ensures answer { IfSome (file_of 0 (S.world store.old)) (λ f. IsFullAnswer result (opened f.bytes)) }
-        ensures run { Runs 0 (KeepsOpened (file_of 0 (S.world store.old))) (S.world store.old) (S.world store.new) }
-        ensures bytes { result ≢ Err TransdbError.Fault → ClosesGates (file_of 0 (S.world store.old)) (file_of 0 (S.world store.new)) }
-        ensures nothing { result ≡ Err TransdbError.NoDatabase → Keeps 0 (S.world store.old) (S.world store.new) }
+        ensures answer { IfTold 0 (S.world store.old)
+            (λ bytes. IsFullAnswer result (opened bytes)) }
+        ensures run { OpensAsBefore (S.world store.old) (S.world store.new) }
+        ensures bytes { result ≢ Err TransdbError.Fault
+            → OnlyClosesGates (S.world store.old) (S.world store.new) }
+        ensures nothing { result ≡ Err TransdbError.NoDatabase
+            → Keeps 0 (S.world store.old) (S.world store.new) }
         ensures stands { IfOk result (λ found. Stands found.0 (file_of 0 (S.world store.new))) }
-        ensures entries { IfOk result (λ found. entries_in (file_of 0 (S.world store.new)) ≡ entries_in (file_of 0 (S.world store.old))) }
+        ensures entries { IfOk result (λ _. SameEntries (S.world store.old) (S.world store.new)) }
         ensures usable { IfOk result (λ found. found.0.active.in_doubt ≡ false) }
-        ensures numbers { IfOk result (λ found. IsNumberedFrom (first_held found.0.header) found.1 × (first_held found.0.header + length found.1 ≡ found.0.active.next)) }
-        ensures width { IfOk result (λ found. records_width (drop (active_first found.0.header - first_held found.0.header) found.1) ≡ found.0.active.place - found.0.active.start) }
+        ensures numbers { IfOk result (λ found. AreAllOf found.0 found.1) }
+        ensures width { IfOk result (λ found. FillActive found.0 found.1) }
         ensures placed { IfOk result (λ found. IsPlaced found.0) }
         ensures refusal { IsOpenRefusal result }
-        ensures cause { result ≡ Err TransdbError.Fault → FileCountRose 0 (S.world store.old) (S.world store.new) }
+        ensures cause { result ≡ Err TransdbError.Fault
+            → FileCountRose 0 (S.world store.old) (S.world store.new) }
     {
         let pair = open_pair(store)?;
         match Header::from_bytes(&pair.value()) {
@@ -91,13 +102,16 @@ impl Transdb {
 
 /// The pair of file 0.
 fn open_pair<S: Store>(store: &mut S) -> Result<Pair, TransdbError>
-    ensures run { Runs 0 (TornFrom 0 0 (file_of 0 (S.world store.old))) (S.world store.old) (S.world store.new) }
-    ensures kept { result ≢ Err TransdbError.Fault → Keeps 0 (S.world store.old) (S.world store.new) }
-    ensures found { IfSome (file_of 0 (S.world store.old)) (λ f. IsPairFound result (pair_opened f.bytes)) }
-    ensures stands { IfOk result (λ pair. EachImage (PairStandsFor pair) (file_of 0 (S.world store.new))) }
+    ensures run { TearsOnly 0 0 0 (S.world store.old) (S.world store.new) }
+    ensures kept { result ≢ Err TransdbError.Fault
+        → Keeps 0 (S.world store.old) (S.world store.new) }
+    ensures found { IfTold 0 (S.world store.old) (λ bytes. IsPairFound result (pair_opened bytes)) }
+    ensures stands { IfOk result (λ pair. EachImage (PairStandsFor pair)
+        (file_of 0 (S.world store.new))) }
     ensures pair { IfOk result (λ pair. (pair.file ≡ 0) × (pair.settled ≡ true)) }
     ensures refusal { IsOpenRefusal result }
-    ensures cause { result ≡ Err TransdbError.Fault → FileCountRose 0 (S.world store.old) (S.world store.new) }
+    ensures cause { result ≡ Err TransdbError.Fault
+        → FileCountRose 0 (S.world store.old) (S.world store.new) }
 {
     match Pair::open(store, FILE) {
         Ok(pair) => Ok(pair),
@@ -119,18 +133,21 @@ fn open_sides<S: Store>(
     requires pair { (pair.file ≡ 0) × (pair.settled ≡ true) }
     requires kept { IsKept (file_of 0 (S.world store.old)) }
     requires stands { EachImage (PairStandsFor pair) (file_of 0 (S.world store.old)) }
-    requires found { IfSome (file_of 0 (S.world store.old)) (λ f. pair_opened f.bytes ≡ holding_value pair.value) }
-    ensures answer { IfSome (file_of 0 (S.world store.old)) (λ f. IsFullAnswer result (opened f.bytes)) }
-    ensures run { Runs 0 (KeepsOpened (file_of 0 (S.world store.old))) (S.world store.old) (S.world store.new) }
-    ensures bytes { result ≢ Err TransdbError.Fault → ClosesGates (file_of 0 (S.world store.old)) (file_of 0 (S.world store.new)) }
+    requires found { IfTold 0 (S.world store.old)
+        (λ bytes. pair_opened bytes ≡ holding_value pair.value) }
+    ensures answer { IfTold 0 (S.world store.old) (λ bytes. IsFullAnswer result (opened bytes)) }
+    ensures run { OpensAsBefore (S.world store.old) (S.world store.new) }
+    ensures bytes { result ≢ Err TransdbError.Fault
+        → OnlyClosesGates (S.world store.old) (S.world store.new) }
     ensures stands { IfOk result (λ found. Stands found.0 (file_of 0 (S.world store.new))) }
-    ensures entries { IfOk result (λ found. entries_in (file_of 0 (S.world store.new)) ≡ entries_in (file_of 0 (S.world store.old))) }
+    ensures entries { IfOk result (λ _. SameEntries (S.world store.old) (S.world store.new)) }
     ensures usable { IfOk result (λ found. found.0.active.in_doubt ≡ false) }
-    ensures numbers { IfOk result (λ found. IsNumberedFrom (first_held found.0.header) found.1 × (first_held found.0.header + length found.1 ≡ found.0.active.next)) }
-    ensures width { IfOk result (λ found. records_width (drop (active_first found.0.header - first_held found.0.header) found.1) ≡ found.0.active.place - found.0.active.start) }
+    ensures numbers { IfOk result (λ found. AreAllOf found.0 found.1) }
+    ensures width { IfOk result (λ found. FillActive found.0 found.1) }
     ensures placed { IfOk result (λ found. IsPlaced found.0) }
     ensures refusal { IsReadRefusal result }
-    ensures cause { result ≡ Err TransdbError.Fault → FileCountRose 0 (S.world store.old) (S.world store.new) }
+    ensures cause { result ≡ Err TransdbError.Fault
+        → FileCountRose 0 (S.world store.old) (S.world store.new) }
 {
     check_sides(store, &header)?;
     let (live, mut entries) = open_live(alloc, store, &header)?;
@@ -144,16 +161,20 @@ fn open_sides<S: Store>(
     Ok((transdb, Frozen::new(entries)))
 }
 
-/// Refuses a file that is shorter than its sides, at its length, and a Clean side that isn't zeros, at its first other byte.
+/// Refuses a file that is shorter than its sides, at its length, and a Clean side that isn't zeros,
+/// at its first other byte.
 fn check_sides<S: Store>(store: &mut S, header: &Header) -> Result<(), TransdbError>
     requires { IsTrue (is_header header.now) }
-    ensures run { Runs 0 (λ f. f ≡ file_of 0 (S.world store.old)) (S.world store.old) (S.world store.new) }
-    ensures told { IfSome (file_of 0 (S.world store.old)) (λ f. IsUnless (with_header (Some header.now) f.bytes) (λ _. IsChecked header.now f.bytes) result) }
+    ensures run { OnlyReads 0 (S.world store.old) (S.world store.new) }
+    ensures told { IfTold 0 (S.world store.old)
+        (λ bytes. IsUnless (with_header (Some header.now) bytes)
+        (λ _. IsChecked header.now bytes) result) }
     ensures refusal { IsReadRefusal result }
-    ensures cause { result ≡ Err TransdbError.Fault → FileCountRose 0 (S.world store.old) (S.world store.new) }
+    ensures cause { result ≡ Err TransdbError.Fault
+        → FileCountRose 0 (S.world store.old) (S.world store.new) }
 {
     let length = store.length(FILE)?;
-    if length < 1024 + 2 * header.side_size() {
+    if length < header.file_size() {
         return Err(TransdbError::Damaged { at: length });
     }
     if header.other != OtherSide::Clean {
@@ -168,9 +189,10 @@ fn check_sides<S: Store>(store: &mut S, header: &Header) -> Result<(), TransdbEr
 /// The place of the first byte of the other side that isn't zero.
 fn find_other<S: Store>(store: &mut S, header: &Header) -> Result<Option<u64>, Failed>
     requires lawful { IsTrue (is_header header.now) }
-    requires long { IfSome (file_of 0 (S.world store.old)) (λ f. file_size header.now ≤ length f.bytes) }
-    ensures run { Runs 0 (λ f. f ≡ file_of 0 (S.world store.old)) (S.world store.old) (S.world store.new) }
-    ensures told { IfSome (file_of 0 (S.world store.old)) (λ f. IfOk result (λ found. found ≡ option_map (λ n. side_start header.now (other_of header.now) + n) (first_other header.now (other_of header.now) f.bytes))) }
+    requires long { IfTold 0 (S.world store.old) (λ bytes. file_size header.now ≤ length bytes) }
+    ensures run { OnlyReads 0 (S.world store.old) (S.world store.new) }
+    ensures told { IfTold 0 (S.world store.old)
+        (λ bytes. IfOk result (λ found. found ≡ first_other_place header.now bytes)) }
     ensures cause { HasCause 0 (S.world store.old) (S.world store.new) result }
 {
     let start = header.side_start(header.other_side());
@@ -187,18 +209,29 @@ fn find_other<S: Store>(store: &mut S, header: &Header) -> Result<Option<u64>, F
     Ok(None)
 }
 
-/// Reads bytes from a place on, and tells the index of the first that isn't zero. What a read doesn't give counts as zero.
+/// Reads bytes from a place on, and tells the index of the first that isn't zero. What a read
+/// doesn't give counts as not zero.
 fn first_nonzero<S: Store>(
     store: &mut S,
     at: u64,
     piece: &mut [u8],
 ) -> Result<Option<usize>, Failed>
-    ensures run { Runs 0 (λ f. f ≡ file_of 0 (S.world store.old)) (S.world store.old) (S.world store.new) }
-    ensures told { IfSome (file_of 0 (S.world store.old)) (λ f. IfOk result (λ found. at + length piece.old ≤ length f.bytes → IsFirstOther (part at (length piece.old) f.bytes) found)) }
+    ensures run { OnlyReads 0 (S.world store.old) (S.world store.new) }
+    ensures told { IfTold 0 (S.world store.old)
+        (λ bytes. IfOk result (λ found. at + length piece.old ≤ length bytes
+        → IsFirstOther (part at (length piece.old) bytes) found)) }
+    ensures missing { IfTold 0 (S.world store.old) (λ bytes. IfOk result
+        (λ found. (k : ℕ) → k < length piece.old → length bytes ≤ at + k → IsSome found)) }
     ensures cause { HasCause 0 (S.world store.old) (S.world store.new) result }
 {
     let n = store.read_at(FILE, at, piece)?;
-    Ok(other_in(&piece[..n]))
+    if let Some(other) = other_in(&piece[..n]) {
+        return Ok(Some(other));
+    }
+    if n < piece.len() {
+        return Ok(Some(n));
+    }
+    Ok(None)
 }
 
 /// The index of the first byte that isn't zero.
@@ -214,21 +247,26 @@ fn open_side<S: Store>(
     store: &mut S,
     header: &Header,
     side: u8,
-) -> Result<(RecLog, Frozen<Bytes>), TransdbError>
+) -> Result<OpenedLog, TransdbError>
     requires lawful { IsTrue (is_header header.now) }
     requires side { side ≤ 1 }
-    requires long { IfSome (file_of 0 (S.world store.old)) (λ f. file_size header.now ≤ length f.bytes) }
-    ensures run { Runs 0 (KeepsSide header.now side (file_of 0 (S.world store.old))) (S.world store.old) (S.world store.new) }
-    ensures stands { IfOk result (λ found. LogStands found.0 (file_of 0 (S.world store.new))) }
-    ensures side { IfOk result (λ found. IsOfSide header.now side found.0) }
-    ensures ends { IfSome (file_of 0 (S.world store.old)) (λ f. IfOk result (λ found. GoesOn header.now side f.bytes found.0)) }
-    ensures payloads { IfSome (file_of 0 (S.world store.old)) (λ f. IfOk result (λ found. found.1 ≡ side_list header.now side f.bytes)) }
-    ensures still { IfSome (file_of 0 (S.world store.new)) (λ f. IfOk result (λ found. found.1 ≡ side_list header.now side f.bytes)) }
-    ensures count { IfOk result (λ found. IsCounted header.now side found.0 found.1) }
-    ensures usable { IfOk result (λ found. found.0.in_doubt ≡ false) }
-    ensures bytes { result ≢ Err TransdbError.Fault → ClosesGates (file_of 0 (S.world store.old)) (file_of 0 (S.world store.new)) }
+    requires long { IfTold 0 (S.world store.old) (λ bytes. file_size header.now ≤ length bytes) }
+    ensures run { KeepsSideOf header.now side (S.world store.old) (S.world store.new) }
+    ensures stands { IfOk result (λ found. LogStands found.log (file_of 0 (S.world store.new))) }
+    ensures side { IfOk result (λ found. IsOfSide header.now side found.log) }
+    ensures ends { IfTold 0 (S.world store.old)
+        (λ bytes. IfOk result (λ found. GoesOn header.now side bytes found.log)) }
+    ensures payloads { IfTold 0 (S.world store.old)
+        (λ bytes. IfOk result (λ found. found.payloads ≡ side_list header.now side bytes)) }
+    ensures still { IfTold 0 (S.world store.new)
+        (λ bytes. IfOk result (λ found. found.payloads ≡ side_list header.now side bytes)) }
+    ensures count { IfOk result (λ found. IsCounted header.now side found.log found.payloads) }
+    ensures usable { IfOk result (λ found. found.log.in_doubt ≡ false) }
+    ensures bytes { result ≢ Err TransdbError.Fault
+        → OnlyClosesGates (S.world store.old) (S.world store.new) }
     ensures refusal { IfErr result (λ e. (e ≡ TransdbError.Fault) ⊎ (e ≡ TransdbError.NoMemory)) }
-    ensures cause { result ≡ Err TransdbError.Fault → FileCountRose 0 (S.world store.old) (S.world store.new) }
+    ensures cause { result ≡ Err TransdbError.Fault
+        → FileCountRose 0 (S.world store.old) (S.world store.new) }
 {
     let start = header.side_start(side);
     let end = start + header.side_size();
@@ -239,40 +277,51 @@ fn open_side<S: Store>(
     }
 }
 
-/// The log of the other side where it is Live, and its entries. Refuses one that doesn't end where the active side begins, at its
-/// end, and a record that is no entry, at its place.
+/// The log of the other side where it is Live, and its entries. Refuses one that doesn't end where
+/// the active side begins, at its end, and a record that is no entry, at its place.
 fn open_live<S: Store>(
     alloc: Global,
     store: &mut S,
     header: &Header,
 ) -> Result<(Option<RecLog>, List<Entry>), TransdbError>
     requires lawful { IsTrue (is_header header.now) }
-    requires long { IfSome (file_of 0 (S.world store.old)) (λ f. file_size header.now ≤ length f.bytes) }
-    ensures live { header.now.other ≡ Live → Runs 0 (KeepsSide header.now (other_of header.now) (file_of 0 (S.world store.old))) (S.world store.old) (S.world store.new) }
-    ensures quiet { header.now.other ≢ Live → Runs 0 (λ f. f ≡ file_of 0 (S.world store.old)) (S.world store.old) (S.world store.new) }
-    ensures told { IfSome (file_of 0 (S.world store.old)) (λ f. IsAnswerBy (λ _ _. EndsRight header.now f.bytes) result (with_sides header.now header.now.other f.bytes)) }
-    ensures read { IfSome (file_of 0 (S.world store.new)) (λ f. IfOk result (λ found. live_read header.now header.now.other f.bytes ≡ Ok found.1.items)) }
-    ensures numbers { IfOk result (λ found. IsNumberedFrom (first_held header.now) found.1.items × (first_held header.now + length found.1.items ≡ active_first header.now)) }
+    requires long { IfTold 0 (S.world store.old) (λ bytes. file_size header.now ≤ length bytes) }
+    ensures live { header.now.other ≡ Live
+        → KeepsSideOf header.now (other_of header.now) (S.world store.old) (S.world store.new) }
+    ensures quiet { header.now.other ≢ Live → OnlyReads 0 (S.world store.old) (S.world store.new) }
+    ensures told { IfTold 0 (S.world store.old)
+        (λ bytes. IsAnswerBy (λ _ _. EndsRight header.now bytes) result
+        (with_sides header.now header.now.other bytes)) }
+    ensures read { IfTold 0 (S.world store.new)
+        (λ bytes. IfOk result (λ found. live_read header.now header.now.other bytes
+        ≡ Ok found.1.items)) }
+    ensures numbers { IfOk result (λ found. LeadsToActive header.now found.1.items) }
     ensures log { IfOk result (λ found. IsLiveLog header.now found.0) }
-    ensures stands { IfOk result (λ found. IfSome found.0 (λ log. LogStands log (file_of 0 (S.world store.new)))) }
-    ensures bytes { result ≢ Err TransdbError.Fault → ClosesGates (file_of 0 (S.world store.old)) (file_of 0 (S.world store.new)) }
+    ensures stands { IfOk result (λ found. IfSome found.0
+        (λ log. LogStands log (file_of 0 (S.world store.new)))) }
+    ensures bytes { result ≢ Err TransdbError.Fault
+        → OnlyClosesGates (S.world store.old) (S.world store.new) }
     ensures refusal { IsReadRefusal result }
-    ensures cause { result ≡ Err TransdbError.Fault → FileCountRose 0 (S.world store.old) (S.world store.new) }
+    ensures cause { result ≡ Err TransdbError.Fault
+        → FileCountRose 0 (S.world store.old) (S.world store.new) }
 {
     let mut entries = List::new(alloc);
     if header.other != OtherSide::Live {
         return Ok((None, entries));
     }
     let side = header.other_side();
-    let (log, payloads) = open_side(alloc, store, header, side)?;
-    if log.next_number() != header.first_on(header.active) {
-        return Err(TransdbError::Damaged { at: log.place() });
+    let found = open_side(alloc, store, header, side)?;
+    if found.log.next_number() != header.first_on(header.active) {
+        return Err(TransdbError::Damaged {
+            at: found.log.place(),
+        });
     }
-    add_payloads(alloc, header, side, payloads, &mut entries)?;
-    Ok((Some(log), entries))
+    add_payloads(alloc, header, side, found.payloads, &mut entries)?;
+    Ok((Some(found.log), entries))
 }
 
-/// The log of the active side. Its entries are added to those of the other side; refuses a record that is no entry, at its place.
+/// The log of the active side. Its entries are added to those of the other side; refuses a record
+/// that is no entry, at its place.
 fn open_active<S: Store>(
     alloc: Global,
     store: &mut S,
@@ -280,19 +329,26 @@ fn open_active<S: Store>(
     entries: &mut List<Entry>,
 ) -> Result<RecLog, TransdbError>
     requires lawful { IsTrue (is_header header.now) }
-    requires long { IfSome (file_of 0 (S.world store.old)) (λ f. file_size header.now ≤ length f.bytes) }
-    ensures run { Runs 0 (KeepsSide header.now header.now.active (file_of 0 (S.world store.old))) (S.world store.old) (S.world store.new) }
-    ensures told { IfSome (file_of 0 (S.world store.new)) (λ f. IsReadOf (λ all _. entries.new.items ≡ entries.old.items ++ all) (side_entries header.now header.now.active f.bytes) result) }
-    ensures part { IfOk result (λ log. AddsPart (active_first header.now) (active_first header.now) log.next (log.place - log.start) entries.old.items entries.new.items) }
+    requires long { IfTold 0 (S.world store.old) (λ bytes. file_size header.now ≤ length bytes) }
+    ensures run { KeepsSideOf header.now header.now.active (S.world store.old) (S.world store.new) }
+    ensures told { IfTold 0 (S.world store.new)
+        (λ bytes. IsReadOf (λ all _. entries.new.items ≡ entries.old.items ++ all)
+        (side_entries header.now header.now.active bytes) result) }
+    ensures part { IfOk result (λ log. AddsPart (active_first header.now)
+        (active_first header.now) log.next
+        (log.place - log.start) entries.old.items entries.new.items) }
     ensures stands { IfOk result (λ log. LogStands log (file_of 0 (S.world store.new))) }
     ensures side { IfOk result (λ log. IsOfSide header.now header.now.active log) }
-    ensures least { IfOk result (λ log. (active_first header.now ≤ log.next) × (log.start ≤ log.place)) }
+    ensures least { IfOk result (λ log. (active_first header.now ≤ log.next)
+        × (log.start ≤ log.place)) }
     ensures usable { IfOk result (λ log. log.in_doubt ≡ false) }
-    ensures bytes { result ≢ Err TransdbError.Fault → ClosesGates (file_of 0 (S.world store.old)) (file_of 0 (S.world store.new)) }
+    ensures bytes { result ≢ Err TransdbError.Fault
+        → OnlyClosesGates (S.world store.old) (S.world store.new) }
     ensures refusal { IsReadRefusal result }
-    ensures cause { result ≡ Err TransdbError.Fault → FileCountRose 0 (S.world store.old) (S.world store.new) }
+    ensures cause { result ≡ Err TransdbError.Fault
+        → FileCountRose 0 (S.world store.old) (S.world store.new) }
 {
-    let (log, payloads) = open_side(alloc, store, header, header.active)?;
-    add_payloads(alloc, header, header.active, payloads, entries)?;
-    Ok(log)
+    let found = open_side(alloc, store, header, header.active)?;
+    add_payloads(alloc, header, header.active, found.payloads, entries)?;
+    Ok(found.log)
 }

@@ -1,18 +1,18 @@
-// Reading the entries that TRANSDB holds.
-ghost use Rattle.std.specs.Prelude.{◌≡◌, ◌≢◌, ℕ, ◌+◌, ◌-◌, ◌^◌, ◌<◌, ◌≤◌, max, true, false, [], ◌∷◌, ◌++◌, drop, length, Err, Some, IsTrue, OnOk, IfOk, IfSome};
+//! Reading the entries that TRANSDB holds.
+ghost use Rattle.std.specs.Prelude.{◌≡◌, ◌≢◌, ◌⊎◌, ◌+◌, ◌-◌, ◌^◌, ◌<◌, ◌≤◌, true, false, [], ◌∷◌, ◌++◌, drop, length, Err, Some, OnOk, OnErr, IfOk, IfErr, IfSome};
 ghost use Rattle.odb_device.specs.World.{file_of};
 ghost use Rattle.odb_device.specs.Calls.{FileCountRose};
-ghost use Rattle.odb_device.specs.Moments.{Runs};
-ghost use Rattle.odb_reclog.specs.Records.{log_of, end_of_list, IsPlaceIn, record_in};
+ghost use Rattle.odb_reclog.specs.Told.{IfTold, OnlyReads};
+ghost use Rattle.odb_reclog.specs.Reading.{IsPlaceOf};
+ghost use Rattle.odb_reclog.specs.Records.{end_of_list};
 ghost use Rattle.odb_reclog.specs.Standing.{Stands as LogStands};
 ghost use Rattle.odb_reclog.specs.Windows.{Shows};
-ghost use Rattle.odb_model.specs.State.{IsNumberedFrom};
 ghost use Rattle.odb_model.specs.Width.{records_width};
-ghost use Rattle.odb_transdb.specs.Header.{is_header, side_start, first_on, first_held, active_first};
-ghost use Rattle.odb_transdb.specs.Standing.{IsOfSide, IsLiveBy};
+ghost use Rattle.odb_transdb.specs.Header.{side_start, first_on, first_held, active_first};
+ghost use Rattle.odb_transdb.specs.Standing.{AreSides};
 ghost use Rattle.odb_transdb.specs.Opened.{entries_from};
 ghost use Rattle.odb_transdb.specs.Answers.{IsReadRefusal};
-ghost use Rattle.odb_transdb.specs.Walking.{live_read, sides_read, IsReadOf, IsRecordOf, IsEntryOf, AddsPart};
+ghost use Rattle.odb_transdb.specs.Walking.{live_read, sides_read, log_entries, log_record, IsReadOf, IsRecordOf, IsEntryOf, AddsPart, AddsPayloads, AddsSome, AreUpTo, AreSome};
 
 use crate::transdb::HEAD_SIZE;
 use crate::{Header, Transdb, TransdbError};
@@ -25,15 +25,17 @@ use std::alloc::{AllocError, Global};
 
 impl Transdb {
     ghost use Rattle.odb_transdb.specs.Opened.{entries_in};
-    ghost use Rattle.odb_transdb.specs.Standing.{Stands, IsPlaced};
+    ghost use Rattle.odb_transdb.specs.Standing.{Stands, IsPlaced, AreWhole};
 
     /// The entries from a number on, which is at least `first()`, in order.
     ///
-    /// It goes once over the sides that hold entries, those before the number too, in pieces of 65,536 bytes, and takes memory for
-    /// one record at a time and for the entries that it gives.
+    /// It goes once over the sides that hold entries, those before the number too, in pieces of
+    /// 65,536 bytes, and takes memory for one record at a time and for the entries that it gives.
     ///
-    /// - `Fault`: a read failed. `NoMemory`: there is none for the entries.
-    /// - `Damaged`: a record that was in order at the opening is so no longer, at its place. A file that is told never shows it.
+    /// A record that was in order at the opening and is so no longer counts as closed: the list
+    /// ends before it. A file that is told never shows one.
+    ///
+    /// `Fault`: a read failed. `NoMemory`: there is none for the entries.
     pub fn entries<S: Store>(
         &self,
         alloc: Global,
@@ -43,87 +45,115 @@ impl Transdb {
         requires usable { self.now.active.in_doubt ≡ false }
         requires from { first_held self.now.header ≤ from }
         requires stands { Stands self.now (file_of 0 (S.world store.old)) }
-        ensures run { Runs 0 (λ f. f ≡ file_of 0 (S.world store.old)) (S.world store.old) (S.world store.new) }
-        ensures entries { IfSome (file_of 0 (S.world store.old)) (λ f. IfOk result (λ es. es ≡ drop (from - first_held self.now.header) (entries_in (Some f)))) }
-        ensures numbers { IfOk result (λ es. IsNumberedFrom from es × (from ≤ self.now.active.next → from + length es ≡ self.now.active.next)) }
-        ensures width { IfOk result (λ es. from ≤ active_first self.now.header
-            → records_width (drop (active_first self.now.header - from) es) ≡ self.now.active.place - self.now.active.start) }
-        ensures damaged { IfSome (file_of 0 (S.world store.old)) (λ f. (at : ℕ) → result ≢ Err (TransdbError.Damaged at)) }
+        ensures run { OnlyReads 0 (S.world store.old) (S.world store.new) }
+        ensures entries { IfSome (file_of 0 (S.world store.old)) (λ f. IfOk result
+            (λ es. es ≡ drop (from - first_held self.now.header) (entries_in (Some f)))) }
+        ensures whole { IfTold 0 (S.world store.old) (λ _. IfOk result (AreWhole self.now from)) }
+        ensures numbers { IfOk result (AreSome from self.now.active.next) }
         ensures placed { IsPlaced self.now }
-        ensures refusal { IsReadRefusal result }
-        ensures cause { result ≡ Err TransdbError.Fault → FileCountRose 0 (S.world store.old) (S.world store.new) }
+        ensures refusal { IfErr result (λ e. (e ≡ TransdbError.Fault)
+            ⊎ (e ≡ TransdbError.NoMemory)) }
+        ensures cause { result ≡ Err TransdbError.Fault
+            → FileCountRose 0 (S.world store.old) (S.world store.new) }
     {
-        read_sides(alloc, store, &self.header, &self.live, &self.active, from)
+        let mut entries = List::new(alloc);
+        match add_sides(
+            alloc,
+            store,
+            &self.header,
+            &self.live,
+            &self.active,
+            from,
+            &mut entries,
+        ) {
+            Ok(()) => Ok(Frozen::new(entries)),
+            Err(TransdbError::Damaged { .. }) => Ok(Frozen::new(entries)),
+            Err(TransdbError::NoMemory) => Err(TransdbError::NoMemory),
+            Err(_) => Err(TransdbError::Fault),
+        }
     }
 }
 
-/// The entries from a number on, which is at least that of the first entry held, in order.
+/// Adds the entries from a number on, which is at least that of the first entry held, in order.
 ///
-/// Refuses a record whose payload is no entry, at its place.
-pub(crate) fn read_sides<S: Store>(
+/// Refuses a record whose payload is no entry, at its place; those before it are added then.
+fn add_sides<S: Store>(
     alloc: Global,
     store: &mut S,
     header: &Header,
     live: &Option<RecLog>,
     active: &RecLog,
     from: u64,
-) -> Result<Entries, TransdbError>
-    requires lawful { IsTrue (is_header header.now) }
-    requires side { IsOfSide header.now header.now.active active.now }
-    requires other { IsLiveBy header.now header.now.other live.now active.now }
+    entries: &mut List<Entry>,
+) -> Result<(), TransdbError>
+    requires sides { AreSides header.now live.now active.now }
     requires usable { active.now.in_doubt ≡ false }
     requires from { first_held header.now ≤ from }
     requires active { LogStands active.now (file_of 0 (S.world store.old)) }
     requires live { IfSome live.now (λ log. LogStands log (file_of 0 (S.world store.old))) }
-    ensures run { Runs 0 (λ f. f ≡ file_of 0 (S.world store.old)) (S.world store.old) (S.world store.new) }
-    ensures told { IfSome (file_of 0 (S.world store.old)) (λ f. IsReadOf (λ all es. es ≡ drop (from - first_held header.now) all) (sides_read header.now f.bytes) result) }
-    ensures numbers { IfOk result (λ es. IsNumberedFrom from es × (from + length es ≡ max from active.now.next)) }
-    ensures width { IfOk result (λ es. from ≤ active_first header.now → records_width (drop (active_first header.now - from) es) ≡ active.now.place - active.now.start) }
-    ensures least { OnOk result ((active_first header.now ≤ active.now.next) × (active.now.start ≤ active.now.place)) }
+    requires none { entries.old.items ≡ [] }
+    ensures run { OnlyReads 0 (S.world store.old) (S.world store.new) }
+    ensures told { IfTold 0 (S.world store.old) (λ bytes. IsReadOf
+        (λ all _. entries.new.items ≡ drop (from - first_held header.now) all)
+        (sides_read header.now bytes) result) }
+    ensures numbers { OnOk result (AreUpTo from active.now.next entries.new.items) }
+    ensures width { OnOk result (from ≤ active_first header.now
+        → records_width (drop (active_first header.now - from) entries.new.items)
+        ≡ active.now.place - active.now.start) }
+    ensures some { AreSome from active.now.next entries.new.items }
     ensures refusal { IsReadRefusal result }
-    ensures cause { result ≡ Err TransdbError.Fault → FileCountRose 0 (S.world store.old) (S.world store.new) }
+    ensures cause { result ≡ Err TransdbError.Fault
+        → FileCountRose 0 (S.world store.old) (S.world store.new) }
 {
-    let mut entries = read_live(alloc, store, header, live, active, from)?;
+    add_live(alloc, store, header, live, active, from, entries)?;
     let start = header.side_start(header.active);
     let first = header.first_on(header.active);
-    add_entries(alloc, store, active, start, first, from, &mut entries)?;
-    Ok(Frozen::new(entries))
+    add_entries(alloc, store, active, start, first, from, entries)?;
+    Ok(())
 }
 
-/// Those of them that a Live side holds.
-fn read_live<S: Store>(
+/// Adds those of them that a Live side holds.
+fn add_live<S: Store>(
     alloc: Global,
     store: &mut S,
     header: &Header,
     live: &Option<RecLog>,
     active: &RecLog,
     from: u64,
-) -> Result<List<Entry>, TransdbError>
-    requires lawful { IsTrue (is_header header.now) }
-    requires side { IsOfSide header.now header.now.active active.now }
-    requires other { IsLiveBy header.now header.now.other live.now active.now }
+    entries: &mut List<Entry>,
+) -> Result<(), TransdbError>
+    requires sides { AreSides header.now live.now active.now }
     requires from { first_held header.now ≤ from }
     requires live { IfSome live.now (λ log. LogStands log (file_of 0 (S.world store.old))) }
-    ensures run { Runs 0 (λ f. f ≡ file_of 0 (S.world store.old)) (S.world store.old) (S.world store.new) }
-    ensures told { IfSome (file_of 0 (S.world store.old)) (λ f. IsReadOf (λ all l. (l.items ≡ drop (from - first_held header.now) all) × (first_held header.now + length all ≡ active_first header.now)) (live_read header.now header.now.other f.bytes) result) }
-    ensures numbers { IfOk result (λ l. IsNumberedFrom from l.items × (from + length l.items ≡ max from (active_first header.now))) }
+    requires none { entries.old.items ≡ [] }
+    ensures run { OnlyReads 0 (S.world store.old) (S.world store.new) }
+    ensures told { IfTold 0 (S.world store.old) (λ bytes. IsReadOf
+        (λ all _. (entries.new.items ≡ drop (from - first_held header.now) all)
+        × (first_held header.now + length all ≡ active_first header.now))
+        (live_read header.now header.now.other bytes) result) }
+    ensures numbers { OnOk result (AreUpTo from (active_first header.now) entries.new.items) }
+    ensures some { AreSome from (active_first header.now) entries.new.items }
     ensures refusal { IsReadRefusal result }
-    ensures cause { result ≡ Err TransdbError.Fault → FileCountRose 0 (S.world store.old) (S.world store.new) }
+    ensures cause { result ≡ Err TransdbError.Fault
+        → FileCountRose 0 (S.world store.old) (S.world store.new) }
 {
-    let mut entries = List::new(alloc);
     let Some(log) = live else {
-        return Ok(entries);
+        return Ok(());
     };
     let side = header.other_side();
     let start = header.side_start(side);
     let first = header.first_on(side);
-    add_entries(alloc, store, log, start, first, from, &mut entries)?;
-    Ok(entries)
+    add_entries(alloc, store, log, start, first, from, entries)?;
+    Ok(())
 }
 
 /// Goes over the list of a side, and adds those of its entries that have a number from `from` on.
 ///
-/// It reads in pieces of 65,536 bytes, by a window on the stack, and takes memory for one record at a time besides the entries.
+/// Refuses a place that is no record of the next number and a payload that is no entry, at the
+/// place; those before it are added then.
+///
+/// It reads in pieces of 65,536 bytes, by a window on the stack, and takes memory for one record at
+/// a time besides the entries.
 fn add_entries<S: Store>(
     alloc: Global,
     store: &mut S,
@@ -136,13 +166,17 @@ fn add_entries<S: Store>(
     requires usable { log.now.in_doubt ≡ false }
     requires stands { LogStands log.now (file_of log.now.file (S.world store.old)) }
     requires begin { (start ≡ log.now.start) × (first ≡ log.now.first) }
-    ensures run { Runs log.now.file (λ f. f ≡ file_of log.now.file (S.world store.old)) (S.world store.old) (S.world store.new) }
-    ensures told { IfSome (file_of log.now.file (S.world store.old)) (λ f. IsReadOf (λ all _. entries.new.items ≡ entries.old.items ++ drop (from - log.now.first) all)
-        (entries_from log.now.first log.now.start (log_of log.now.start log.now.end log.now.first f.bytes)) result) }
+    ensures run { OnlyReads log.now.file (S.world store.old) (S.world store.new) }
+    ensures told { IfTold log.now.file (S.world store.old) (λ bytes. IsReadOf
+        (λ all _. entries.new.items ≡ entries.old.items ++ drop (from - log.now.first) all)
+        (log_entries log.now bytes) result) }
     ensures least { OnOk result ((log.now.first ≤ log.now.next) × (log.now.start ≤ log.now.place)) }
-    ensures part { OnOk result (AddsPart from log.now.first log.now.next (log.now.place - log.now.start) entries.old.items entries.new.items) }
+    ensures part { OnOk result (AddsPart from log.now.first log.now.next
+        (log.now.place - log.now.start) entries.old.items entries.new.items) }
+    ensures some { AddsSome from log.now.first log.now.next entries.old.items entries.new.items }
     ensures refusal { IsReadRefusal result }
-    ensures cause { result ≡ Err TransdbError.Fault → FileCountRose log.now.file (S.world store.old) (S.world store.new) }
+    ensures cause { result ≡ Err TransdbError.Fault
+        → FileCountRose log.now.file (S.world store.old) (S.world store.new) }
 {
     let end = log.place();
     let next = log.next_number();
@@ -164,8 +198,8 @@ fn add_entries<S: Store>(
 
 /// Adds the entries that the payloads of a side's records are the images of, in order.
 ///
-/// Refuses a payload that is no entry, at its record's place. It makes no call of a store, and takes memory for the entries; a
-/// payload's own is given back when its entry is made.
+/// Refuses a payload that is no entry, at its record's place. It makes no call of a store, and
+/// takes memory for the entries; a payload's own is given back when its entry is made.
 pub(crate) fn add_payloads(
     alloc: Global,
     header: &Header,
@@ -176,9 +210,10 @@ pub(crate) fn add_payloads(
     requires side { side ≤ 1 }
     requires numbers { first_on header.now side + length payloads < 2 ^ 64 }
     requires places { end_of_list (side_start header.now side) payloads < 2 ^ 64 }
-    ensures told { IsReadOf (λ all _. entries.new.items ≡ entries.old.items ++ all) (entries_from (first_on header.now side) (side_start header.now side) payloads) result }
-    ensures part { OnOk result (AddsPart (first_on header.now side) (first_on header.now side) (first_on header.now side + length payloads)
-        (end_of_list (side_start header.now side) payloads - side_start header.now side) entries.old.items entries.new.items) }
+    ensures told { IsReadOf (λ all _. entries.new.items ≡ entries.old.items ++ all)
+        (entries_from (first_on header.now side) (side_start header.now side) payloads) result }
+    ensures part { OnOk result (AddsPayloads header.now side payloads
+        entries.old.items entries.new.items) }
     ensures refusal { IsReadRefusal result }
     ensures cause { result ≢ Err TransdbError.Fault }
 {
@@ -196,8 +231,10 @@ pub(crate) fn add_payloads(
 
 /// Adds an entry where it is wanted.
 fn add_entry(entries: &mut List<Entry>, entry: Entry, wanted: bool) -> Result<(), AllocError>
-    ensures wanted { OnOk result (wanted ≡ true → entries.new.items ≡ entries.old.items ++ entry ∷ []) }
+    ensures wanted { OnOk result (wanted ≡ true
+        → entries.new.items ≡ entries.old.items ++ entry ∷ []) }
     ensures other { OnOk result (wanted ≡ false → entries.new.items ≡ entries.old.items) }
+    ensures err { OnErr result (entries.new.items ≡ entries.old.items) }
 {
     if wanted {
         entries.reserve()?;
@@ -218,14 +255,17 @@ fn record_at<S: Store>(
     requires usable { log.now.in_doubt ≡ false }
     requires stands { LogStands log.now (file_of log.now.file (S.world store.old)) }
     requires within { (log.now.start ≤ at) × (at ≤ log.now.place) }
-    requires place { IfSome (file_of log.now.file (S.world store.old)) (λ f. IsPlaceIn log.now.start (log_of log.now.start log.now.end log.now.first f.bytes) at) }
+    requires place { IsPlaceOf log.now at (S.world store.old) }
     requires shows { Shows window.old (file_of log.now.file (S.world store.old)) }
-    ensures run { Runs log.now.file (λ f. f ≡ file_of log.now.file (S.world store.old)) (S.world store.old) (S.world store.new) }
-    ensures told { IfSome (file_of log.now.file (S.world store.old)) (λ f. IsRecordOf (record_in log.now.start log.now.first (log_of log.now.start log.now.end log.now.first f.bytes) at) at number result) }
-    ensures found { IfOk result (λ r. (r.number ≡ number) × (number < log.now.next) × (r.next ≤ log.now.place) × (r.next ≡ at + 13 + length r.payload)) }
+    ensures run { OnlyReads log.now.file (S.world store.old) (S.world store.new) }
+    ensures told { IfTold log.now.file (S.world store.old)
+        (λ bytes. IsRecordOf (log_record log.now at bytes) at number result) }
+    ensures found { IfOk result (λ r. (r.number ≡ number) × (number < log.now.next)
+        × (r.next ≤ log.now.place) × (r.next ≡ at + 13 + length r.payload)) }
     ensures shows { OnOk result (Shows window.new (file_of log.now.file (S.world store.old))) }
     ensures refusal { IsReadRefusal result }
-    ensures cause { result ≡ Err TransdbError.Fault → FileCountRose log.now.file (S.world store.old) (S.world store.new) }
+    ensures cause { result ≡ Err TransdbError.Fault
+        → FileCountRose log.now.file (S.world store.old) (S.world store.new) }
 {
     match log.records_by(alloc, store, window, at) {
         Ok(Some(record)) if record.number == number => Ok(record),

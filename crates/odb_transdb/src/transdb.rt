@@ -1,4 +1,4 @@
-// The log of commits in memory.
+//! The log of commits in memory.
 ghost use Rattle.std.specs.Prelude.{◌≡◌, ◌+◌, ◌-◌};
 
 use crate::Header;
@@ -14,8 +14,9 @@ pub(crate) const HEAD_SIZE: u64 = 13;
 
 /// The log of commits: file 0 of a database, as it was opened.
 ///
-/// A commit is one record of the active side. It is written behind a closed gate and counts from the moment at which that gate
-/// is open on the disk: so a crash at any moment leaves the entries before it, or those and it.
+/// A commit is one record of the active side. It is written behind a closed gate and counts from
+/// the moment at which that gate is open on the disk: so a crash at any moment leaves the entries
+/// before it, or those and it.
 ///
 /// Contracts see it as a `Db`, and say by `Stands` which file is its own.
 #[derive(Debug, Drop)]
@@ -34,9 +35,11 @@ impl Model for Transdb {
 
     ghost Value = { Db };
 
-    ghost view = { λ t. record { header = t.header; pair = t.pair; active = t.active; live = t.live } };
+    ghost view = { λ t.
+        record { header = t.header; pair = t.pair; active = t.active; live = t.live } };
 
-    ghost invariant = { λ t. IsDb (record { header = t.header; pair = t.pair; active = t.active; live = t.live }) };
+    ghost invariant = { λ t. IsDb
+        (record { header = t.header; pair = t.pair; active = t.active; live = t.live }) };
 }
 
 impl Transdb {
@@ -64,7 +67,8 @@ impl Transdb {
         self.active.next_number().saturating_sub(1)
     }
 
-    /// How many bytes are left for records on the active side; a record takes 13 and those of its entry's image.
+    /// How many bytes are left for records on the active side; a record takes 13 and those of its
+    /// entry's image.
     pub fn room(&self) -> u64
         ensures { result ≡ room_of self.now }
     {

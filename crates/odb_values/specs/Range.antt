@@ -8,7 +8,8 @@ use Rattle.odb_values.specs.declared.edge.Edge.TheVariants.{Free, Closed, Beyond
 use Rattle.odb_values.specs.declared.range.Range.{Range}
 use Rattle.odb_values.specs.Value.{value_cmp}
 
--- whether a first value exists and lies at or above the edge (Closed) or above it (Beyond); Free asks nothing
+-- whether a first value exists and lies at or above the edge (Closed) or above it (Beyond); Free
+-- asks nothing
 abbrev pub passes_low : Edge → List Value → Bool
 passes_low Free rest = true
 passes_low (Closed v) [] = false
@@ -16,7 +17,8 @@ passes_low (Closed v) (x ∷ rest) = is_le (value_cmp v x)
 passes_low (Beyond v) [] = false
 passes_low (Beyond v) (x ∷ rest) = is_lt (value_cmp v x)
 
--- whether a first value exists and lies at or below the edge (Closed) or below it (Beyond); Free asks nothing
+-- whether a first value exists and lies at or below the edge (Closed) or below it (Beyond); Free
+-- asks nothing
 abbrev pub passes_high : Edge → List Value → Bool
 passes_high Free rest = true
 passes_high (Closed v) [] = false

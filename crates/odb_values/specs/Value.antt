@@ -7,7 +7,8 @@ use Rattle.std.specs.Cmp.Lexicographic.{slice_cmp}
 use Rattle.odb_values.specs.declared.value.Value.{Value}
 use Rattle.odb_values.specs.declared.value.Value.TheVariants.{Null, Int, Text}
 
--- the bytes of a value's image: a byte for its kind, then 8 of a number, or 2 of a length and the text
+-- the bytes of a value's image: a byte for its kind, then 8 of a number, or 2 of a length and the
+-- text
 abbrev pub width_of : Value → ℕ
 width_of Null = 1
 width_of (Int n) = 9

@@ -31,10 +31,14 @@ text_of (Text t) = t
 
 -- the order of values again, by three parts that each value has: kind, then number, then text
 abbrev by_parts : Value → Value → Ordering
-by_parts = then_cmp (on kind_of nat_cmp) (then_cmp (on number_of int_cmp) (on text_of (slice_cmp nat_cmp)))
+by_parts =
+    then_cmp (on kind_of nat_cmp)
+    (then_cmp (on number_of int_cmp) (on text_of (slice_cmp nat_cmp)))
 
 by_parts_total : IsTotalOrder by_parts
-by_parts_total = then_total (on_total kind_of nat_cmp_total) (then_total (on_total number_of int_cmp_total) (on_total text_of nat_list_cmp_total))
+by_parts_total =
+    then_total (on_total kind_of nat_cmp_total)
+    (then_total (on_total number_of int_cmp_total) (on_total text_of nat_list_cmp_total))
 
 then_equal : (o : Ordering) → ordering_then o Equal ≡ o
 then_equal Less = refl

@@ -1,3 +1,4 @@
+//! Values that can be copied.
 ghost use Rattle.std.specs.Prelude.{◌≡◌, IfOk};
 
 use std::alloc::{AllocError, Global};

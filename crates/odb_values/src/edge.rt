@@ -1,3 +1,4 @@
+//! The ends of a range.
 use crate::{Duplicate, Value};
 use std::alloc::{AllocError, Global};
 

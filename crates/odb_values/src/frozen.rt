@@ -1,3 +1,4 @@
+//! Lists at rest.
 ghost use Rattle.std.specs.Prelude.{◌≡◌, ◌↔◌, [], length, IfOk, IsTrue};
 
 use crate::same::same_items;
@@ -28,7 +29,7 @@ impl<T> Model for Frozen<T> {
 }
 
 impl<T> Frozen<T> {
-    /// The items of a list that is built; its reserved places are given up. It takes no memory.
+    /// The items of a list that is built; its reserved places are given up.
     pub fn new(list: List<T>) -> Frozen<T>
         ensures { result ≡ list.items }
     {
@@ -46,14 +47,14 @@ impl<T> Frozen<T> {
         }
     }
 
-    /// The items of a vector. It takes no memory.
+    /// The items of a vector.
     pub fn from_vec(items: Vec<T>) -> Frozen<T>
         ensures { result ≡ items.items }
     {
         Frozen { items }
     }
 
-    /// The vector of the items. It takes no memory.
+    /// The vector of the items.
     pub fn into_vec(self) -> Vec<T>
         ensures { result.items ≡ self }
     {
@@ -61,7 +62,7 @@ impl<T> Frozen<T> {
         items
     }
 
-    /// The same items as a list to be built on, with no place reserved. It takes no memory.
+    /// The same items as a list to be built on, with no place reserved.
     pub fn into_list(self) -> List<T>
         ensures { result ≡ record { items = self; spare = 0 } }
     {

@@ -1,3 +1,4 @@
+//! Keys, and how they are ordered.
 ghost use Rattle.std.specs.Prelude.{◌≡◌, ◌↔◌, ◌*◌, ◌^◌, ◌<◌, ◌≤◌, length, not, IfOk, IsOk, IsErrOf, IsTrue};
 ghost use Rattle.std.specs.List.{list_all};
 ghost use Rattle.odb_values.specs.Value.{is_null, values_cmp};
@@ -42,7 +43,7 @@ impl Model for Key {
 }
 
 impl Key {
-    /// The key of these values. [`is_keyed`] is the test of the condition. It takes no memory.
+    /// The key of these values. [`is_keyed`] is the test of the condition.
     pub fn new(values: Values) -> Result<Key, ValuesError>
         requires { IsKeyed values }
         ensures value { IfOk result (λ key. key ≡ values) }
@@ -63,7 +64,7 @@ impl Key {
         self.values.as_slice()
     }
 
-    /// The values in key order, as a list of their own. It takes no memory.
+    /// The values in key order, as a list of their own.
     pub fn into_values(self) -> Values
         ensures value { result ≡ self }
         ensures key { IsKey self }
@@ -121,7 +122,7 @@ pub fn cmp_values(a: &[Value], b: &[Value]) -> Ordering
 }
 
 /// How two keys stand: column by column, Int before Text, Int by number, Text by bytes, a proper
-/// prefix first. It takes no memory.
+/// prefix first.
 pub fn cmp_key(a: &Key, b: &Key) -> Ordering
     ensures { result ≡ values_cmp a.now b.now }
 {

@@ -3,6 +3,9 @@
 //! Contracts see a [`Text`] as its bytes, a [`Key`] and a [`Row`] as their lists of values, a
 //! [`Frozen`] list as its items, and a [`Range`] as the record of its fields. `specs/` has the
 //! definitions: what a text and a key are, how values are ordered, and which keys are in a range.
+//!
+//! A call without `alloc` takes no memory, but for `reserve` and `append` of a [`List`], which
+//! keeps its allocator.
 #![tactic(auto)]
 
 mod duplicate;

@@ -1,5 +1,7 @@
-ghost use Rattle.std.specs.Prelude.{◌≡◌, ℕ, ◌+◌, ◌-◌, ◌<◌, ◌≤◌, [], ◌∷◌, ◌++◌, length, slice_get, take, IfOk, OnOk, OnErr, OnSome, MatchOption, ◌↔◌, IsTrue};
+//! Lists that are being built.
+ghost use Rattle.std.specs.Prelude.{◌≡◌, ◌<◌, [], ◌∷◌, ◌++◌, length, slice_get, IfOk, IfSome, IfNone, OnOk, OnErr, OnSome, ◌↔◌, IsTrue};
 ghost use Rattle.std.specs.Option.{option_copied};
+ghost use Rattle.odb_values.specs.Listed.{append, push, reserve, truncate};
 
 use crate::{Duplicate, Frozen};
 use std::alloc::{AllocError, Global};
@@ -39,14 +41,14 @@ impl<T> List<T> {
         }
     }
 
-    /// The list of a vector's items, with no place reserved. It takes no memory.
+    /// The list of a vector's items, with no place reserved.
     pub fn from_vec(items: Vec<T>) -> List<T>
         ensures { result ≡ record { items = items.items; spare = 0 } }
     {
         List { items, spare: 0 }
     }
 
-    /// The vector of the items. It takes no memory.
+    /// The vector of the items.
     pub fn into_vec(self) -> Vec<T>
         ensures { result.items ≡ self.items }
     {
@@ -54,10 +56,10 @@ impl<T> List<T> {
         items
     }
 
-    /// Reserves one more place, with the allocator that the list keeps. The error is want of memory.
-    /// A list that grows by one place at a time takes new memory only when it has doubled.
+    /// Reserves one more place, with the allocator that the list keeps. The error is want of
+    /// memory. A list that grows by one place at a time takes new memory only when it has doubled.
     pub fn reserve(&mut self) -> Result<(), AllocError>
-        ensures ok { OnOk result (self.new ≡ record self.old { spare = self.old.spare + 1 }) }
+        ensures ok { OnOk result (self.new ≡ reserve self.old) }
         ensures err { OnErr result (self.new ≡ self.old) }
     {
         let places = self.spare.checked_add(1).ok_or(AllocError)?;
@@ -76,7 +78,7 @@ impl<T> List<T> {
     /// Puts an item behind the last one, into a reserved place.
     pub fn push(&mut self, item: T)
         requires { 0 < self.old.spare }
-        ensures { self.new ≡ record { items = self.old.items ++ item ∷ []; spare = self.old.spare - 1 } }
+        ensures { self.new ≡ push self.old item }
     {
         self.spare -= 1;
         self.items.push_reserved(item);
@@ -84,17 +86,19 @@ impl<T> List<T> {
 
     /// Takes the last item out, and leaves the reserved places as they are.
     pub fn pop(&mut self) -> Option<T>
-        ensures items { MatchOption result ((self.old.items ≡ []) × (self.new.items ≡ [])) (λ last. self.old.items ≡ self.new.items ++ last ∷ []) }
+        ensures some { IfSome result (λ last. self.old.items ≡ self.new.items ++ last ∷ []) }
+        ensures none { IfNone result ((self.old.items ≡ []) × (self.new.items ≡ [])) }
         ensures spare { self.new.spare ≡ self.old.spare }
     {
         self.items.pop()
     }
 
-    /// Puts items behind the last one, and leaves the reserved places as they are. The error is want of memory.
+    /// Puts items behind the last one, and leaves the reserved places as they are. The error is
+    /// want of memory.
     pub fn append(&mut self, items: Frozen<T>) -> Result<(), AllocError>
     where
         T: Drop,
-        ensures ok { OnOk result (self.new ≡ record { items = self.old.items ++ items; spare = self.old.spare }) }
+        ensures ok { OnOk result (self.new ≡ append self.old items) }
         ensures err { OnErr result (self.new ≡ self.old) }
     {
         let mut items = items.into_vec();
@@ -108,7 +112,7 @@ impl<T> List<T> {
     pub fn truncate(&mut self, len: usize)
     where
         T: Drop,
-        ensures { self.new ≡ record { items = take len self.old.items; spare = self.old.spare } }
+        ensures { self.new ≡ truncate self.old len }
     {
         self.items.truncate(len);
     }

@@ -1,3 +1,4 @@
+//! Ranges of keys.
 ghost use Rattle.std.specs.Prelude.{◌≡◌, ◌≤◌, length};
 ghost use Rattle.std.specs.Bool.{OnTrue};
 ghost use Rattle.std.specs.List.{starts_with};
@@ -27,7 +28,7 @@ pub struct Range {
 }
 
 impl Range {
-    /// Whether a key of a table is in the range. It takes no memory.
+    /// Whether a key of a table is in the range.
     pub fn contains(&self, table: u32, key: &Key) -> bool
         ensures { result ≡ in_range self.now table key.now }
     {

@@ -1,3 +1,4 @@
+//! Rows.
 ghost use Rattle.std.specs.Prelude.{◌≡◌};
 
 use crate::same::same_items;
@@ -22,7 +23,7 @@ impl Model for Row {
 }
 
 impl Row {
-    /// The row of these values. It takes no memory.
+    /// The row of these values.
     pub fn new(values: Values) -> Row
         ensures { result ≡ values }
     {
@@ -36,7 +37,7 @@ impl Row {
         self.values.as_slice()
     }
 
-    /// The values in column order, as a list of their own. It takes no memory.
+    /// The values in column order, as a list of their own.
     pub fn into_values(self) -> Values
         ensures { result ≡ self }
     {

@@ -1,10 +1,11 @@
+//! Equality as contracts mean it.
 ghost use Rattle.std.specs.Prelude.{◌≡◌, ◌↔◌, IsTrue};
 
 /// Equality as contracts mean it.
 ///
 /// `==` answers what an `impl` of `PartialEq` says; `same` answers whether two values are one.
 pub trait Same {
-    /// Whether the two values are equal. It takes no memory.
+    /// Whether the two values are equal.
     fn same(&self, other: &Self) -> bool
         ensures { IsTrue result ↔ (self.now ≡ other.now) };
 }

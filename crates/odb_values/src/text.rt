@@ -1,3 +1,4 @@
+//! Texts.
 ghost use Rattle.std.specs.Prelude.{◌≡◌, ◌↔◌, IsSome, IfSome, IfOk, IsTrue, string_bytes};
 ghost use Rattle.std.specs.List.{list_all};
 ghost use Rattle.odb_values.specs.Text.{IsText, is_plain};
@@ -26,7 +27,7 @@ impl Model for Text {
 
 impl Text {
     /// The text of a string, or None where the string is longer than 800 bytes or has a control
-    /// byte. It takes no memory.
+    /// byte.
     pub fn new(text: String) -> Option<Text>
         ensures text { IsSome result ↔ IsText (string_bytes text) }
         ensures value { IfSome result (λ made. made ≡ string_bytes text) }

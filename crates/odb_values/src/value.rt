@@ -1,3 +1,4 @@
+//! Values, and how they are ordered.
 ghost use Rattle.std.specs.Prelude.{◌≡◌, ◌≤◌};
 ghost use Rattle.odb_values.specs.Value.{width_of, is_null, value_cmp};
 
@@ -45,7 +46,6 @@ impl Value {
 }
 
 /// How two values stand in a key: Null before Int before Text, Int by number, Text by bytes.
-/// It takes no memory.
 pub fn cmp_value(a: &Value, b: &Value) -> Ordering
     ensures { result ≡ value_cmp a.now b.now }
 {
@@ -76,7 +76,9 @@ impl Same for Value {
             (Value::Null, Value::Null) => true,
             (Value::Int(a), Value::Int(b)) => a == b,
             (Value::Text(a), Value::Text(b)) => a.same(b),
-            _ => false,
+            (Value::Null, Value::Int(_) | Value::Text(_)) => false,
+            (Value::Int(_), Value::Null | Value::Text(_)) => false,
+            (Value::Text(_), Value::Null | Value::Int(_)) => false,
         }
     }
 }

@@ -1,5 +1,5 @@
-//! The program: it makes a database in the current folder, or plays the script on its standard input over the one that is there and
-//! writes the replies on its standard output.
+//! The program: it makes a database in the current folder, or plays the script on its standard
+//! input over the one that is there and writes the replies on its standard output.
 #![tactic(auto)]
 
 use odb_folder::FolderHost;

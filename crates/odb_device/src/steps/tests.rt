@@ -1,10 +1,11 @@
-// A console that takes its time.
+//! A console that takes its time.
 use super::*;
 use crate::Outside;
 use std::alloc::Global;
 use std::test::Fail;
 
-/// Takes at most `most` bytes a call, and fails at the call of this number. Each byte said is a moment.
+/// Takes at most `most` bytes a call, and fails at the call of this number. Each byte said is a
+/// moment.
 #[derive(Drop)]
 struct SlowConsole {
     said: Vec<u8>,
@@ -35,7 +36,12 @@ impl Outside for SlowConsole {
       time = length s.said.items;
       moment = λ k. record { files = λ _. None; said = Some (take k s.said.items) };
       faults = λ _. 0;
-      talk = record { taken = None; has_ended = s.has_ended; take_faults = 0; say_faults = s.faults };
+      talk = record {
+        taken = None;
+        has_ended = s.has_ended;
+        take_faults = 0;
+        say_faults = s.faults;
+      };
     } };
 }
 

@@ -1,4 +1,4 @@
-// A file over a fake one, whose system does all that a system may do.
+//! A file over a fake one, whose system does all that a system may do.
 ghost use Rattle.std.specs.Prelude.{◌+◌, ◌≤◌, IfOk};
 
 use super::*;
@@ -9,10 +9,11 @@ use std::io::ErrorKind;
 /// How many bytes the fake file has, always.
 const LENGTH: usize = 8;
 
-/// A file of 8 bytes. Each second call of read or write is interrupted, and each other moves at most 3 bytes.
+/// A file of 8 bytes. Each second call of read or write is interrupted, and each other moves at
+/// most 3 bytes.
 ///
-/// A byte that was written stands in memory until a sync. A sync that fails writes nothing, and keeps what is in memory as if
-/// the disk had it: the next sync doesn't write it any more.
+/// A byte that was written stands in memory until a sync. A sync that fails writes nothing, and
+/// keeps what is in memory as if the disk had it: the next sync doesn't write it any more.
 #[derive(Drop)]
 struct FakeFile {
     memory: Cell<[u8; LENGTH]>,
@@ -66,7 +67,7 @@ impl OpenFile for FakeFile {
         Ok(())
     }
 
-    fn sync_all(&self) -> io::Result<()> {
+    fn sync_data(&self) -> io::Result<()> {
         let is_dirty = self.is_dirty.replace([false; LENGTH]);
         let left = self.syncs_to_fail.get();
         if left > 0 {
@@ -83,8 +84,8 @@ impl OpenFile for FakeFile {
         Ok(())
     }
 
-    fn sync_data(&self) -> io::Result<()> {
-        self.sync_all()
+    fn sync_all(&self) -> io::Result<()> {
+        self.sync_data()
     }
 }
 
@@ -94,15 +95,17 @@ impl AsRawFd for FakeFile {
     }
 }
 
-/// A new file whose next syncs fail, so many of them.
+/// A new file whose length is known, and whose next syncs fail, so many of them.
 fn failing(syncs: u32) -> SyncedFile<FakeFile> {
-    SyncedFile::new(FakeFile {
+    let mut file = SyncedFile::new(FakeFile {
         memory: Cell::new(*b"abcdefgh"),
         is_dirty: Cell::new([false; LENGTH]),
         disk: Cell::new(*b"abcd----"),
         calls: Cell::new(0),
         syncs_to_fail: Cell::new(syncs),
-    })
+    });
+    file.end = LENGTH as u64;
+    file
 }
 
 #[test]
@@ -130,9 +133,9 @@ fn a_sync_that_failed_is_made_good(rt: HostRuntime) {
     assert!(rt; file.sync().is_err());
     assert_eq!(rt; &file.file.disk.get(), b"abcdefgh");
     let calls = file.file.calls.get();
-    assert!(rt; file.sync_if_needed().is_ok());
+    assert!(rt; file.needs_sync() && file.sync().is_ok());
     assert_eq!(rt; &file.file.disk.get(), b"abCdeFgh");
-    assert!(rt; file.sync_if_needed().is_ok());
+    assert!(rt; !file.needs_sync());
     assert_eq!(rt;
         file.file.calls.get().wrapping_sub(calls),
         8,

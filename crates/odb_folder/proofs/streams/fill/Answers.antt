@@ -21,4 +21,4 @@ pub loop-filled-preserved : goal.loop-filled-preserved
 loop-filled-preserved g c =
     let read = c.in_ok-n.ensures in
     let grown = take-put_mid_read c.loop-filled.filled _ c.in_ok-n.n c.loop-filled.out c.read_once.new.out c.loop-filled.invariant.0 read.bound in
-    (search rules, subst (Consumes _ _) (sym grown) (Consumes-trans _ _ _ _ _ c.loop-filled.invariant.1 read.bytes))
+    (search rules, subst (Consumes _ _) (sym grown) (Consumes-trans _ _ _ _ _ c.loop-filled.invariant.1 read.bytes.0))

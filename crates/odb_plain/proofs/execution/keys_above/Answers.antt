@@ -11,7 +11,7 @@ use Rattle.odb_plain.proofs.execution.keys_above.Goals as goal
 
 pub returns : goal.returns
 returns c =
-    let s = after_writes (replay c.args.history.now) c.args.own.now in
+    let s = after_writes (replay c.args.history.now) c.args.write_set.now in
     let range : c.kv_above-range.result ≡ range_of kv (key_above c.args.number) = search rules in
     let rows : c.in_ok-rows.rows ≡ part_in (range_of kv (key_above c.args.number)) s = c.in_ok-rows.ensures ∙ ap (λ r. part_in r s) range in
     record {

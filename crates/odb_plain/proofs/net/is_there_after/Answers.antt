@@ -7,10 +7,10 @@ use Rattle.odb_plain.proofs.net.is_there_after.Goals.{then-is_at, else-is_at}
 
 pub loop-write-preserved : goal.loop-write-preserved
 loop-write-preserved c s before =
-    let place = c.args.place.now in
+    let at = c.args.at.now in
     let w = c.write-item.result in
-    let row = get (after_writes s (take c.loop-write.write-index c.args.writes.now)) place in
-    let step = ap is_some (get-after_item c.args.writes.now c.loop-write.write-index w c.loop-write-test.true c.write-item.is s place) in
+    let row = get (after_writes s (take c.loop-write.write-index c.args.writes.now)) at in
+    let step = ap is_some (get-after_item c.args.writes.now c.loop-write.write-index w c.loop-write-test.true c.write-item.is s at) in
     elim c.if-is_at.branch [
       | then-is_at v ↦ step ∙ ap (λ b. is_some (cond b w.row row)) (sym v.if-is_at.ensures) ∙ sym (v.there-is ∙ v.is_some-there.ensures)
       | else-is_at v ↦ step ∙ ap (λ b. is_some (cond b w.row row)) (sym v.if-is_at.ensures) ∙ c.loop-write.invariant s before ∙ sym v.there-is

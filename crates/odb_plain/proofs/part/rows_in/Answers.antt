@@ -19,5 +19,5 @@ pub returns : goal.returns
 returns c =
     let range = c.args.range.now in
     c.in_ok-put_inside-2.ensures
-    ∙ ap (λ m. after_writes m (inside range c.args.own.now)) (c.loop-entry.invariant ∙ ap (λ h. part_in range (replay h)) (take_all c.loop-entry.entry-index c.args.history.now (omega arith)))
-    ∙ part_in-after_writes range (replay c.args.history.now) c.args.own.now
+    ∙ ap (λ m. after_writes m (inside range c.args.write_set.now)) (c.loop-entry.invariant ∙ ap (λ h. part_in range (replay h)) (take_all c.loop-entry.entry-index c.args.history.now (omega arith)))
+    ∙ part_in-after_writes range (replay c.args.history.now) c.args.write_set.now

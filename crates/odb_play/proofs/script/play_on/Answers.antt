@@ -17,7 +17,7 @@ loop-taken-init g c = record {
   room = c.requires.room;
   only = touches_talks 0 (g.H.Outside.world c.args.host.now) (g.H.Outside.world c.args.host.now) (talks_none (g.H.Outside.world c.args.host.now));
   durable = c.requires.durable;
-  playing = λ m stands none. begins_with m c.args.player.now.system c.args.player.now.kept.items (g.H.Outside.world c.args.host.now) stands c.requires.durable none;
+  playing = λ m stands none. begins_with m c.args.player.now.system c.args.player.now.front.items (g.H.Outside.world c.args.host.now) stands c.requires.durable none;
 }
 
 pub feed-requires : goal.feed-requires
@@ -34,7 +34,7 @@ end-requires-then-n-eq0-2 g c =
 
 pub returns-in_default-clause-played : goal.returns-in_default-clause-played
 returns-in_default-clause-played g c = λ m stands none.
-    stops_input m stands.faithful c.args.player.now.system c.loop-taken.player.system c.loop-taken.player.kept.items c.loop-taken.taken (g.H.Outside.world c.args.host.now) (g.H.Outside.world c.loop-taken.host)
+    stops_input m stands.answered c.args.player.now.system c.loop-taken.player.system c.loop-taken.player.front.items c.loop-taken.taken (g.H.Outside.world c.args.host.now) (g.H.Outside.world c.loop-taken.host)
     c.requires.durable (c.loop-taken.invariant.playing m stands none) c.loop-taken.invariant.durable
     (g.H.Outside.world c.take_some.new.host) c.take_some.ensures.talks c.take_some.ensures.silent c.in_default.ensures.failed c.loop-taken.invariant.few
 
@@ -45,7 +45,7 @@ returns-in_default-clause-read_fault g c = λ same.
 pub returns-then-n-eq0-clause-played : goal.returns-then-n-eq0-clause-played
 returns-then-n-eq0-clause-played g c = λ m stands none.
     let playing = c.loop-taken.invariant.playing m stands none in
-    ends_any m stands.faithful c.args.player.now.system c.loop-taken.player.system c.loop-taken.player.kept.items c.loop-taken.taken (g.H.Outside.world c.args.host.now) (g.H.Outside.world c.loop-taken.host)
+    ends_any m stands.answered c.args.player.now.system c.loop-taken.player.system c.loop-taken.player.front.items c.loop-taken.taken (g.H.Outside.world c.args.host.now) (g.H.Outside.world c.loop-taken.host)
     c.requires.durable playing c.loop-taken.invariant.durable
     (g.H.Outside.world c.take_some.new.host) c.take_some.ensures.talks c.take_some.ensures.silent
     (took_none c.in-Ok.n c.take_some.new.piece (g.H.Outside.world c.loop-taken.host) (g.H.Outside.world c.take_some.new.host) c.if-n-eq0.true c.in-Ok.ensures.taken)
@@ -69,10 +69,10 @@ returns-in-Err-clause-played g c = λ m stands none.
     let took : TookPiece (take c.in-Ok.n c.take_some.new.piece) (g.H.Outside.world c.loop-taken.host) (g.H.Outside.world c.take_some.new.host) =
     took_some c.in-Ok.n c.take_some.new.piece (g.H.Outside.world c.loop-taken.host) (g.H.Outside.world c.take_some.new.host) c.if-n-eq0.false within c.take_some.ensures.talks c.take_some.ensures.silent c.in-Ok.ensures.taken c.in-Ok.ensures.ended in
     subst (λ (status : Status). IsPlayed m status (g.H.Outside.world c.args.host.now) (g.H.Outside.world c.feed.new.host)) (sym c.status.ensures)
-    (stops_any m stands.faithful c.args.player.now.system c.loop-taken.player.system c.loop-taken.player.kept.items c.loop-taken.taken (g.H.Outside.world c.args.host.now) (g.H.Outside.world c.loop-taken.host)
+    (stops_any m stands.answered c.args.player.now.system c.loop-taken.player.system c.loop-taken.player.front.items c.loop-taken.taken (g.H.Outside.world c.args.host.now) (g.H.Outside.world c.loop-taken.host)
     c.requires.durable playing c.loop-taken.invariant.durable
     (take c.in-Ok.n c.take_some.new.piece) (g.H.Outside.world c.take_some.new.host) took (subst (λ (n : ℕ). c.loop-taken.taken + n ≤ most_input) (sym count) few)
-    c.feed.new.self.system c.feed.new.self.kept.items (g.H.Outside.world c.feed.new.host) c.feed.ensures.input (Unit {0}) c.in-Err.stop
+    c.feed.new.self.system c.feed.new.self.front.items (g.H.Outside.world c.feed.new.host) c.feed.ensures.input (Unit {0}) c.in-Err.stop
     (c.in-Err.ensures.bytes c.args.player.now.system.transdb.header m playing.input playing.answers playing.at))
 
 pub returns-in-Err-clause-write_fault : goal.returns-in-Err-clause-write_fault
@@ -99,17 +99,17 @@ loop-taken-preserved g c =
       durable = c.feed.ensures.durable;
       playing = λ m stands none.
           let playing = c.loop-taken.invariant.playing m stands none in
-          subst (λ (n : ℕ). IsPlaying c.args.player.now.system.transdb.header m c.feed.new.self.system c.feed.new.self.kept.items (c.loop-taken.taken + n) (g.H.Outside.world c.args.host.now) (g.H.Outside.world c.feed.new.host)) count
-          (goes_any m stands.faithful c.args.player.now.system c.loop-taken.player.system c.loop-taken.player.kept.items c.loop-taken.taken (g.H.Outside.world c.args.host.now) (g.H.Outside.world c.loop-taken.host)
+          subst (λ (n : ℕ). IsPlaying c.args.player.now.system.transdb.header m c.feed.new.self.system c.feed.new.self.front.items (c.loop-taken.taken + n) (g.H.Outside.world c.args.host.now) (g.H.Outside.world c.feed.new.host)) count
+          (goes_any m stands.answered c.args.player.now.system c.loop-taken.player.system c.loop-taken.player.front.items c.loop-taken.taken (g.H.Outside.world c.args.host.now) (g.H.Outside.world c.loop-taken.host)
           c.requires.durable playing c.loop-taken.invariant.durable
           (take c.in-Ok.n c.take_some.new.piece) (g.H.Outside.world c.take_some.new.host) took (subst (λ (n : ℕ). c.loop-taken.taken + n ≤ most_input) (sym count) few)
-          c.feed.new.self.system c.feed.new.self.kept.items (g.H.Outside.world c.feed.new.host) c.feed.ensures.input c.feed.result c.in_default-feed.not-Err
+          c.feed.new.self.system c.feed.new.self.front.items (g.H.Outside.world c.feed.new.host) c.feed.ensures.input c.feed.result c.in_default-feed.not-Err
           (c.feed.ensures.bytes c.args.player.now.system.transdb.header m playing.input playing.answers playing.at));
     }
 
 pub returns-in_default-take_some-clause-played : goal.returns-in_default-take_some-clause-played
 returns-in_default-take_some-clause-played g c = λ m stands none.
-    stops_input m stands.faithful c.args.player.now.system c.loop-taken.player.system c.loop-taken.player.kept.items c.loop-taken.taken (g.H.Outside.world c.args.host.now) (g.H.Outside.world c.loop-taken.host)
+    stops_input m stands.answered c.args.player.now.system c.loop-taken.player.system c.loop-taken.player.front.items c.loop-taken.taken (g.H.Outside.world c.args.host.now) (g.H.Outside.world c.loop-taken.host)
     c.requires.durable (c.loop-taken.invariant.playing m stands none) c.loop-taken.invariant.durable
     (g.H.Outside.world c.take_some-2.new.host) c.take_some-2.ensures.talks c.take_some-2.ensures.silent c.in_default-take_some.ensures.failed c.loop-taken.invariant.few
 
@@ -120,7 +120,7 @@ returns-in_default-take_some-clause-read_fault g c = λ same.
 pub returns-then-n-eq0-2-clause-played : goal.returns-then-n-eq0-2-clause-played
 returns-then-n-eq0-2-clause-played g c = λ m stands none.
     let playing = c.loop-taken.invariant.playing m stands none in
-    ends_any m stands.faithful c.args.player.now.system c.loop-taken.player.system c.loop-taken.player.kept.items c.loop-taken.taken (g.H.Outside.world c.args.host.now) (g.H.Outside.world c.loop-taken.host)
+    ends_any m stands.answered c.args.player.now.system c.loop-taken.player.system c.loop-taken.player.front.items c.loop-taken.taken (g.H.Outside.world c.args.host.now) (g.H.Outside.world c.loop-taken.host)
     c.requires.durable playing c.loop-taken.invariant.durable
     (g.H.Outside.world c.take_some-2.new.host) c.take_some-2.ensures.talks c.take_some-2.ensures.silent
     (took_none c.in-Ok-take_some.n c.take_some-2.new.piece (g.H.Outside.world c.loop-taken.host) (g.H.Outside.world c.take_some-2.new.host) c.if-n-eq0-2.true c.in-Ok-take_some.ensures.taken)
@@ -141,7 +141,7 @@ returns-clause-played g c = λ m stands none.
     let one : length (take c.in-Ok-take_some.n c.take_some-2.new.piece) ≡ 1 =
     length-take-le c.in-Ok-take_some.n c.take_some-2.new.piece within ∙ one_of c.in-Ok-take_some.n c.in-Ok-take_some.ensures.bound c.if-n-eq0-2.false in
     let full : c.loop-taken.taken ≡ most_input = omega arith in
-    stops_long m stands.faithful c.args.player.now.system c.loop-taken.player.system c.loop-taken.player.kept.items c.loop-taken.taken (g.H.Outside.world c.args.host.now) (g.H.Outside.world c.loop-taken.host)
+    stops_long m stands.answered c.args.player.now.system c.loop-taken.player.system c.loop-taken.player.front.items c.loop-taken.taken (g.H.Outside.world c.args.host.now) (g.H.Outside.world c.loop-taken.host)
     c.requires.durable (c.loop-taken.invariant.playing m stands none) c.loop-taken.invariant.durable
     (take c.in-Ok-take_some.n c.take_some-2.new.piece) (g.H.Outside.world c.take_some-2.new.host)
     (took_some c.in-Ok-take_some.n c.take_some-2.new.piece (g.H.Outside.world c.loop-taken.host) (g.H.Outside.world c.take_some-2.new.host) c.if-n-eq0-2.false within c.take_some-2.ensures.talks c.take_some-2.ensures.silent c.in-Ok-take_some.ensures.taken c.in-Ok-take_some.ensures.ended)

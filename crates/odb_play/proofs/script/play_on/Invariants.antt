@@ -14,8 +14,8 @@ invariant-loop-taken g l = record {
   room : 0 < length l.piece;
   only : TouchesOnly 0 (g.H.Outside.world l.fn.host) (g.H.Outside.world l.host);
   durable : IsDurable l.player.system (file_of 0 (g.H.Outside.world l.host));
-  playing : (m : Machine) → StandsFor l.fn.player.system m → l.fn.player.kept.items ≡ []
-      → IsPlaying l.fn.player.system.transdb.header m l.player.system l.player.kept.items l.taken (g.H.Outside.world l.fn.host) (g.H.Outside.world l.host);
+  playing : (m : Machine) → StandsFor l.fn.player.system m → l.fn.player.front.items ≡ []
+      → IsPlaying l.fn.player.system.transdb.header m l.player.system l.player.front.items l.taken (g.H.Outside.world l.fn.host) (g.H.Outside.world l.host);
 }
 
 abbrev pub decreases-loop-taken : goal.decreases-loop-taken

@@ -11,22 +11,22 @@ use Rattle.odb_reclog.proofs.gate.close_end.Goals.{After-write_synced}
 
 -- the gate was found open
 found : (g : Over) (c : After-write_synced g)
-    → IfSome (file_of c.args.file (g.S.Outside.world c.args.store.now))
-    (λ f. EndsOpen c.args.start c.args.end c.args.first c.args.place f.bytes)
+    → IfSome (file_of c.args.region.file (g.S.Outside.world c.args.store.now))
+    (λ f. EndsOpen c.args.region.start c.args.region.end c.args.region.first c.args.place f.bytes)
 found g c =
-    ends_open c.args.start c.args.end c.args.first c.args.place c.in_ok-is_open.field-0
-    (file_of c.args.file (g.S.Outside.world c.args.store.now)) c.requires.range.0 c.if-place-end.false c.if-not-branch.false c.requires.long
+    ends_open c.args.region.start c.args.region.end c.args.region.first c.args.place c.in_ok-is_open.field-0
+    (file_of c.args.region.file (g.S.Outside.world c.args.store.now)) c.requires.within c.if-place-region.false c.if-not-branch.false c.requires.long
     c.requires.ends
     c.in_ok-is_open.ensures.open
 
 -- whatever the write answered
 run : (g : Over) (c : After-write_synced g)
-    → Runs c.args.file
-    (KeepsLists c.args.start c.args.end c.args.first c.args.start (c.args.end - c.args.start)
-    (file_of c.args.file (g.S.Outside.world c.args.store.now))) (g.S.Outside.world c.args.store.now)
+    → Runs c.args.region.file
+    (KeepsLists c.args.region.start c.args.region.end c.args.region.first c.args.region.start (c.args.region.end - c.args.region.start)
+    (file_of c.args.region.file (g.S.Outside.world c.args.store.now))) (g.S.Outside.world c.args.store.now)
     (g.S.Outside.world c.write_synced.new.store)
 run g c =
-    closing_run c.args.file c.args.start c.args.end c.args.first c.args.place (g.S.Outside.world c.args.store.now)
+    closing_run c.args.region.file c.args.region.start c.args.region.end c.args.region.first c.args.place (g.S.Outside.world c.args.store.now)
     (g.S.Outside.world c.is_open.new.store) (g.S.Outside.world c.write_synced.new.store) c.is_open.ensures.run
     c.write_synced.ensures.run c.requires.kept (found g c)
 
@@ -39,7 +39,7 @@ returns-clause-run g c = run g (goal.at.returns-clause-run g c).After-write_sync
 pub returns-clause-closes : goal.returns-clause-closes
 returns-clause-closes g c =
     let w = g.S.Outside.world c.args.store.now in
-    closes_open c.args.place c.args.end c.args.start c.args.first (file_of c.args.file w)
-    (file_of c.args.file (g.S.Outside.world c.is_open.new.store)) (file_of c.args.file (g.S.Outside.world c.write_synced.new.store))
-    (run_end c.args.file (λ f. f ≡ file_of c.args.file w) w (g.S.Outside.world c.is_open.new.store) c.is_open.ensures.run)
+    closes_open c.args.place c.args.region.end c.args.region.start c.args.region.first (file_of c.args.region.file w)
+    (file_of c.args.region.file (g.S.Outside.world c.is_open.new.store)) (file_of c.args.region.file (g.S.Outside.world c.write_synced.new.store))
+    (run_end c.args.region.file (λ f. f ≡ file_of c.args.region.file w) w (g.S.Outside.world c.is_open.new.store) c.is_open.ensures.run)
     c.in_ok-write_synced.ensures.done (found g (goal.at.returns-clause-closes g c).After-write_synced)

@@ -10,10 +10,10 @@ use Rattle.odb_reclog.proofs.opening.close_list.Goals.{After-max}
 -- the log that is answered
 abbrev log : (g : Over) → After-max g → Log
 log g c = record {
-  file = c.args.file;
-  start = c.args.start;
-  end = c.args.end;
-  first = c.args.first;
+  file = c.args.region.file;
+  start = c.args.region.start;
+  end = c.args.region.end;
+  first = c.args.region.first;
   place = c.args.found.place;
   next = c.args.found.number;
   clear_from = c.max.result;
@@ -26,26 +26,30 @@ in_range : (g : Over) (c : After-max g) → IsLog (log g c)
 in_range g c =
     let range = c.requires.range in
     record {
-      start = range.0;
-      end = range.1;
-      most = c.requires.region;
-      first = c.requires.first;
-      next = range.2;
+      start = range.start;
+      end = range.end;
+      most = c.requires.region.range;
+      first = c.requires.region.first;
+      next = range.number;
       clear_from = omega (arith, c.max.ensures);
       clear_to = omega (arith, c.max.ensures);
       body = λ has. absurd (false≢true has);
     }
 
-pub returns-clause-stands : goal.returns-clause-stands
-returns-clause-stands g c =
-    let f = c.args.file in
-    open_stands (log g c) c.args.found (in_range g c) refl refl (omega (arith, c.max.ensures))
-    (file_of f (g.S.Outside.world c.args.store.now)) (file_of f (g.S.Outside.world c.close_end.new.store)) c.in_ok-close_end.ensures.closes
-    c.requires.long c.requires.ends
-
-pub returns-clause-list : goal.returns-clause-list
-returns-clause-list g c =
-    let f = c.args.file in
-    open_list (log g c) c.args.found (in_range g c) refl refl (omega (arith, c.max.ensures))
-    (file_of f (g.S.Outside.world c.args.store.now)) (file_of f (g.S.Outside.world c.close_end.new.store)) c.in_ok-close_end.ensures.closes
-    c.requires.long c.requires.ends
+pub returns-clause-opened : goal.returns-clause-opened
+returns-clause-opened g c =
+    let f = c.args.region.file in
+    let old = file_of f (g.S.Outside.world c.args.store.now) in
+    let new = file_of f (g.S.Outside.world c.close_end.new.store) in
+    record {
+      file = refl;
+      start = refl;
+      end = refl;
+      first = refl;
+      touched = refl;
+      has_body = refl;
+      in_doubt = refl;
+      stands = open_stands (log g c) c.args.found (in_range g c) refl refl (omega (arith, c.max.ensures)) old new c.in_ok-close_end.ensures.closes c.requires.long c.requires.ends;
+      list = open_list (log g c) c.args.found (in_range g c) refl refl (omega (arith, c.max.ensures)) old new c.in_ok-close_end.ensures.closes c.requires.long c.requires.ends;
+      closes = c.in_ok-close_end.ensures.closes;
+    }

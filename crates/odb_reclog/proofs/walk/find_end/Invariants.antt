@@ -4,7 +4,7 @@ use Rattle.odb_reclog.proofs.walk.find_end.Given as goal
 
 abbrev pub invariant-loop-next : goal.invariant-loop-next
 invariant-loop-next g l =
-    Walked l.file l.start l.end l.first (g.S.Outside.world l.initial.store) (g.S.Outside.world l.store) l.window l.place l.number
+    Walked l.region.file l.region.start l.region.end l.region.first (g.S.Outside.world l.initial.store) (g.S.Outside.world l.store) l.window l.place l.number
 
 abbrev pub decreases-loop-next : goal.decreases-loop-next
-decreases-loop-next g l = l.end - l.place
+decreases-loop-next g l = l.region.end - l.place

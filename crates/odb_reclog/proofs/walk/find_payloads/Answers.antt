@@ -10,7 +10,7 @@ loop-payloads-preserved g c =
     let payload = c.in-Some.record.payload in
     let added : c.push.new.self.items ≡ old ++ payload ∷ [] =
     ap (λ (l : Listed (List ℕ)). l.items) c.push.ensures ∙ ap (λ (l : Listed (List ℕ)). l.items ++ payload ∷ []) c.in_ok-reserve.ensures.ok in
-    gather_more c.args.file c.args.start c.args.end c.args.first (g.S.Outside.world c.args.store.now) (g.S.Outside.world c.loop-payloads.store)
+    gather_more c.args.region.file c.args.region.start c.args.region.end c.args.region.first (g.S.Outside.world c.args.store.now) (g.S.Outside.world c.loop-payloads.store)
     (g.S.Outside.world c.next_record.new.store) c.loop-payloads.window c.next_record.new.window old c.push.new.self.items
     c.loop-payloads.place c.loop-payloads.number c.in_ok-record.field-0 c.in-Some.record c.loop-payloads.invariant added c.next_record.ensures.run found.shows found.next found.payload
     found.forward c.in-Some.is

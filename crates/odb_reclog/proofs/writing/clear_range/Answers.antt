@@ -2,8 +2,7 @@ use Rattle.std.proofs.Common.{◌≡◌, ◌+◌, ◌≤◌, ℕ, false, Some, l
 use Rattle.odb_device.specs.World.{File, World, file_of}
 use Rattle.odb_device.specs.Images.{TornFrom}
 use Rattle.odb_device.specs.Moments.{Runs}
-use Rattle.odb_reclog.specs.Standing.{AreZero}
-use Rattle.odb_reclog.specs.Clearing.{ReadsZero}
+use Rattle.odb_device.specs.Zeros.{AreZero, ReadsZero}
 use Rattle.odb_reclog.proofs.Clearing.{clearing_run, clearing_piece, clearing_sync}
 use Rattle.odb_reclog.proofs.writing.clear_range.Given.{Over}
 use Rattle.odb_reclog.proofs.writing.clear_range.Goals.{After-clear_piece, After-sync}

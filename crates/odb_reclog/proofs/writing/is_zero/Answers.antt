@@ -1,6 +1,6 @@
 use Rattle.std.proofs.Common.{◌≡◌, ◌+◌, ℕ, length, subst, arith}
 use Rattle.odb_device.specs.World.{file_of}
-use Rattle.odb_reclog.specs.Clearing.{ReadsZero}
+use Rattle.odb_device.specs.Zeros.{ReadsZero}
 use Rattle.odb_reclog.proofs.Zeros.{read_zero}
 use Rattle.odb_reclog.proofs.writing.is_zero.Goals as goal
 

@@ -22,30 +22,30 @@ use Rattle.odb_transdb.proofs.opening.open_live.Goals.{After-add_payloads}
 pub returns-then-next_number-first_on-clause-told : goal.returns-then-next_number-first_on-clause-told
 returns-then-next_number-first_on-clause-told g c =
     let h = c.args.header.now in
-    let log = c.in_ok-log.log in
+    let log = c.in_ok-found.found.log in
     let o = file_of 0 (g.S.Outside.world c.args.store.now) in
     let live : h.other ≡ Live = search rules in
     let other : log.next ≢ active_first h = λ (same : log.next ≡ active_first h). c.if-next_number-first_on.true (c.next_number.ensures ∙ same ∙ sym c.first_on.ensures) in
-    let ends : IfSome o (λ f. GoesOn h (other_of h) f.bytes log) = subst (λ (s : ℕ). IfSome o (λ f. GoesOn h s f.bytes log)) c.other_side-side.ensures c.in_ok-log.ensures.ends in
+    let ends : IfSome o (λ f. GoesOn h (other_of h) f.bytes log) = subst (λ (s : ℕ). IfSome o (λ f. GoesOn h s f.bytes log)) c.other_side-side.ensures c.in_ok-found.ensures.ends in
     told_wrong h o log c.place.result live c.place.ensures.value ends other
 
 -- the log ends where the active side begins
-ends : (g : Over) (c : After-add_payloads g) → first_on c.args.header.now (other_of c.args.header.now) + length c.in_ok-log.payloads ≡ active_first c.args.header.now
+ends : (g : Over) (c : After-add_payloads g) → first_on c.args.header.now (other_of c.args.header.now) + length c.in_ok-found.found.payloads ≡ active_first c.args.header.now
 ends g c =
     let h = c.args.header.now in
-    subst (λ (s : ℕ). first_on h s + length c.in_ok-log.payloads ≡ active_first h) c.other_side-side.ensures
-    (c.in_ok-log.ensures.count.number ∙ sym c.next_number.ensures ∙ c.if-next_number-first_on.false ∙ c.first_on.ensures)
+    subst (λ (s : ℕ). first_on h s + length c.in_ok-found.found.payloads ≡ active_first h) c.other_side-side.ensures
+    (c.in_ok-found.ensures.count.number ∙ sym c.next_number.ensures ∙ c.if-next_number-first_on.false ∙ c.first_on.ensures)
 
 pub returns-in_err-add_payloads-clause-told : goal.returns-in_err-add_payloads-clause-told
 returns-in_err-add_payloads-clause-told g c =
     let h = c.args.header.now in
     let o = file_of 0 (g.S.Outside.world c.args.store.now) in
     let live : h.other ≡ Live = search rules in
-    let payloads = c.in_ok-log.payloads in
+    let payloads = c.in_ok-found.found.payloads in
     let e = c.in_err-add_payloads.field-0.0 in
     let p = err_from_is_err_and c.from_residual-in_err-add_payloads.result c.from_residual-in_err-add_payloads.ensures.1 in
     let read : IfSome o (λ f. payloads ≡ side_list h (other_of h) f.bytes) =
-    subst (λ (s : ℕ). IfSome o (λ f. payloads ≡ side_list h s f.bytes)) c.other_side-side.ensures c.in_ok-log.ensures.payloads in
+    subst (λ (s : ℕ). IfSome o (λ f. payloads ≡ side_list h s f.bytes)) c.other_side-side.ensures c.in_ok-found.ensures.payloads in
     let P : List Entry → Unit {0} → Type 0 = λ (all : List Entry) (done : Unit {0}). c.add_payloads.new.entries.items ≡ c.new-entries.result.items ++ all in
     let told : IsReadOf P (entries_from (first_on h (other_of h)) (side_start h (other_of h)) payloads) (Err e) =
     subst (λ (s : ℕ). IsReadOf P (entries_from (first_on h s) (side_start h s) payloads) (Err e)) c.other_side-side.ensures c.in_err-add_payloads.ensures.told in
@@ -56,7 +56,7 @@ pub returns-clause-numbers : goal.returns-clause-numbers
 returns-clause-numbers g c =
     let h = c.args.header.now in
     let live : h.other ≡ Live = search rules in
-    let payloads = c.in_ok-log.payloads in
+    let payloads = c.in_ok-found.found.payloads in
     let base = c.new-entries.result.items in
     let items = c.add_payloads.new.entries.items in
     let none : base ≡ [] = ap (λ (l : Listed Entry). l.items) c.new-entries.ensures in

@@ -12,4 +12,4 @@ returns-in-Ok-clause-bytes g c = λ ok.
     let o = file_of 0 (g.S.Outside.world c.args.store.now) in
     let end = c.side_start-start.result + c.side_size.result in
     let is_end : end ≡ side_end h c.args.side = omega (arith, c.side_start-start.ensures, c.side_size.ensures) in
-    gates_at c.in-Ok.found.0.place end o (file_of 0 (g.S.Outside.world c.open_with_payloads.new.store)) (subst (λ (n : ℕ). IfSome o (λ f. n ≤ length f.bytes)) (sym is_end) (side_long h c.args.side o c.requires.side c.requires.long)) c.in-Ok.ensures.closes
+    gates_at c.in-Ok.found.log.place end o (file_of 0 (g.S.Outside.world c.open_with_payloads.new.store)) (subst (λ (n : ℕ). IfSome o (λ f. n ≤ length f.bytes)) (sym is_end) (side_long h c.args.side o c.requires.side c.requires.long)) c.in-Ok.ensures.opened.closes

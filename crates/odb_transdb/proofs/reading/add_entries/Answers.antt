@@ -11,7 +11,7 @@ use Rattle.odb_transdb.specs.declared.error.TransdbError.{TransdbError}
 use Rattle.odb_transdb.specs.declared.error.TransdbError.TheVariants.{Damaged}
 use Rattle.odb_transdb.specs.Opened.{entries_from}
 use Rattle.odb_transdb.specs.Walking.{IsReadOf, IsRecordOf}
-use Rattle.odb_transdb.proofs.Walking.{walked_none, walked_file, walked_place, refused_record, refused_entry, walked_more, walked_wrong}
+use Rattle.odb_transdb.proofs.Walking.{walked_some, walked_none, walked_file, walked_place, refused_record, refused_entry, walked_more, walked_wrong}
 use Rattle.odb_transdb.proofs.reading.add_entries.Goals as goal
 
 pub loop-at-init : goal.loop-at-init
@@ -93,7 +93,7 @@ loop-at-preserved g c =
     let items_now : c.add_entry.new.entries.items ≡ items ++ drop (c.args.from - c.loop-at.number) (c.in_ok-entry.entry ∷ []) =
     added c.args.from c.loop-at.number items c.add_entry.new.entries.items c.in_ok-entry.entry (nat_le c.args.from c.loop-at.number) refl c.in_ok-add_entry.ensures.wanted c.in_ok-add_entry.ensures.other in
     walked_more log c.args.from base w mid c.loop-at.window c.loop-at.at c.loop-at.number items c.loop-at.invariant c.requires.stands reads r (omega (arith, c.place-end.ensures.value)) told c.in_ok-record.ensures.found.0
-    (g.S.Outside.world c.record_at.new.store) c.record_at.new.window c.in_ok-entry.entry c.add_entry.new.entries.items c.record_at.ensures.run c.in_ok-record.ensures.shows c.in_ok-record.ensures.found.3 c.in_ok-record.ensures.found.2
+    (g.S.Outside.world c.record_at.new.store) c.record_at.new.window c.in_ok-entry.entry c.add_entry.new.entries.items c.in_ok-record.ensures.found.1 c.record_at.ensures.run c.in_ok-record.ensures.shows c.in_ok-record.ensures.found.3 c.in_ok-record.ensures.found.2
     c.in_ok-entry.ensures items_now
 
 pub returns-then-number-next-clause-told : goal.returns-then-number-next-clause-told
@@ -107,3 +107,39 @@ returns-then-number-next-clause-told g c =
     walked_wrong log c.args.from base w mid c.loop-at.window c.loop-at.at c.loop-at.number c.loop-at.entries.items c.loop-at.invariant c.requires.stands reads (omega (arith, c.place-end.ensures.value))
     (λ f. IsReadOf P (entries_from log.first log.start (log_of log.start log.end log.first f.bytes)) (Err (Damaged c.loop-at.at)))
     (λ same. c.if-number-next.true (same ∙ sym c.next_number-next.ensures))
+
+-- what was added so far, whatever ends the walk
+pub returns-in_err-record-clause-some : goal.returns-in_err-record-clause-some
+returns-in_err-record-clause-some g c =
+    let log = c.args.log.now in
+    let w = g.S.Outside.world c.args.store.now in
+    walked_some log c.args.from c.args.entries.now.items w (g.S.Outside.world c.loop-at.store) c.loop-at.window c.loop-at.at c.loop-at.number c.loop-at.entries.items c.loop-at.invariant c.requires.stands
+    (g.met.S.Store.reads_image c.args.store.now log.file) c.loop-at.entries.items refl
+
+pub returns-in_err-entry-clause-some : goal.returns-in_err-entry-clause-some
+returns-in_err-entry-clause-some g c =
+    let log = c.args.log.now in
+    let w = g.S.Outside.world c.args.store.now in
+    walked_some log c.args.from c.args.entries.now.items w (g.S.Outside.world c.loop-at.store) c.loop-at.window c.loop-at.at c.loop-at.number c.loop-at.entries.items c.loop-at.invariant c.requires.stands
+    (g.met.S.Store.reads_image c.args.store.now log.file) c.loop-at.entries.items refl
+
+pub returns-in_err-add_entry-clause-some : goal.returns-in_err-add_entry-clause-some
+returns-in_err-add_entry-clause-some g c =
+    let log = c.args.log.now in
+    let w = g.S.Outside.world c.args.store.now in
+    walked_some log c.args.from c.args.entries.now.items w (g.S.Outside.world c.loop-at.store) c.loop-at.window c.loop-at.at c.loop-at.number c.loop-at.entries.items c.loop-at.invariant c.requires.stands
+    (g.met.S.Store.reads_image c.args.store.now log.file) c.add_entry.new.entries.items c.in_err-add_entry.ensures.err
+
+pub returns-then-number-next-clause-some : goal.returns-then-number-next-clause-some
+returns-then-number-next-clause-some g c =
+    let log = c.args.log.now in
+    let w = g.S.Outside.world c.args.store.now in
+    walked_some log c.args.from c.args.entries.now.items w (g.S.Outside.world c.loop-at.store) c.loop-at.window c.loop-at.at c.loop-at.number c.loop-at.entries.items c.loop-at.invariant c.requires.stands
+    (g.met.S.Store.reads_image c.args.store.now log.file) c.loop-at.entries.items refl
+
+pub returns-clause-some : goal.returns-clause-some
+returns-clause-some g c =
+    let log = c.args.log.now in
+    let w = g.S.Outside.world c.args.store.now in
+    walked_some log c.args.from c.args.entries.now.items w (g.S.Outside.world c.loop-at.store) c.loop-at.window c.loop-at.at c.loop-at.number c.loop-at.entries.items c.loop-at.invariant c.requires.stands
+    (g.met.S.Store.reads_image c.args.store.now log.file) c.loop-at.entries.items refl

@@ -29,8 +29,8 @@ invariant_of-self-2 c =
     let files : c.set-2.new.self.files ≡ with_bytes h.current.files file bytes = c.set-2.ensures.files ∙ ap (λ (l : List (ℕ × List ℕ)). with_bytes l file bytes) c.reserve-2.ensures.files in
     subst (Stands c.set-2.new.self (vec_capacity h.pieces) (vec_capacity h.said)) (next k)
     (stands_set (tape_of h) file bytes h.current c.set-2.new.self (vec_capacity h.pieces) (vec_capacity h.said) c.self.invariant files
-    (omega (arith, ap length files, length-with file bytes h.current.files, c.in_ok-reserve-2.ensures.more_places, c.set-2.ensures.places, c.places_left-places.ensures.left, ap length c.reserve-2.ensures.files))
-    (omega (arith, c.reserve-2.ensures.room, c.set-2.ensures.room)))
+    (omega (arith, ap length files, length-with file bytes h.current.files, c.in_ok-reserve-2.ensures.more_places, c.set-2.ensures.space.places, c.places_left-places.ensures.left, ap length c.reserve-2.ensures.files))
+    (omega (arith, c.reserve-2.ensures.space.room, c.set-2.ensures.space.room)))
 
 pub returns-clause-on_disk : goal.returns-clause-on_disk
 returns-clause-on_disk c =

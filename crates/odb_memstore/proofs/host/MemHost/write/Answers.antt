@@ -55,4 +55,4 @@ invariant_of-self-2 c =
     ap (λ (b : Bool). b || is_listed h.recorder) (sym (left k)) ∙ not-true (fails h.recorder) (sym c.ask.ensures.goes_on ∙ c.if-not-ask.false) in
     subst (Stands c.write.new.self (vec_capacity c.add.new.to) (vec_capacity h.said)) (sym (next k))
     (stands_written h.current (vec_capacity h.pieces) (vec_capacity h.said) (tape_of h) c.self.invariant c.args.file c.args.at c.args.bytes.now c.requires (left k) c.write.new.self (vec_capacity c.add.new.to) c.add.ensures.capacity unlisted
-    c.write.ensures.files c.write.ensures.places c.write.ensures.room)
+    c.write.ensures.files c.write.ensures.space.places c.write.ensures.space.room)

@@ -2,7 +2,7 @@ use Rattle.std.proofs.Common.{◌∙◌, List, ℕ, sym, ap, subst}
 use Rattle.odb_device.specs.World.{File}
 use Rattle.odb_device.specs.Calls.{CallsOn, Stays}
 use Rattle.odb_memstore.specs.Tape.{Tape, file_now, world_of}
-use Rattle.odb_memstore.specs.Calls.{HasCopied}
+use Rattle.odb_device.specs.Calls.{HasCopied}
 use Rattle.odb_memstore.proofs.StoreCalls.{look_call, look_stays, look_same}
 use Rattle.odb_memstore.proofs.store.MemHostStore.read_at.Goals as goal
 

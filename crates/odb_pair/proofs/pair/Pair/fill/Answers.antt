@@ -6,7 +6,7 @@ use Rattle.odb_device.specs.Images.{TornFrom}
 use Rattle.odb_device.specs.Moments.{Runs}
 use Rattle.odb_device.proofs.Puts.{torn_run, put_done}
 use Rattle.odb_pair.specs.Places.{next}
-use Rattle.odb_pair.specs.Standing.{Kept, StandsFor, IsFilled}
+use Rattle.odb_pair.specs.Standing.{PairState, StandsFor, IsFilled}
 use Rattle.odb_pair.proofs.Beside.{run_at, run_wider, puts_at}
 use Rattle.odb_pair.proofs.Places.{fill_torn, fill_done}
 use Rattle.odb_pair.proofs.pair.Pair.fill.Given.{Over}
@@ -20,19 +20,19 @@ write g c =
     let p = c.args.self.now in
     let w = g.S.Outside.world c.args.store.now in
     let w1 = g.S.Outside.world c.write_synced.new.store in
-    let run = run_at c.self.inside.file p.file (c.other_start.result + 1) (512 * (1 - p.place) + 1) (length c.body_of-body.result) w w1 (ap (λ (k : Kept). k.file) c.self.view_is) (ap (λ (k : ℕ). k + 1) c.other_start.ensures.value) c.write_synced.ensures.run in
+    let run = run_at c.self.inside.file p.file (c.other_start.result + 1) (512 * (1 - p.place) + 1) (length c.body_of-body.result) w w1 (ap (λ (k : PairState). k.file) c.self.view_is) (ap (λ (k : ℕ). k + 1) c.other_start.ensures.value) c.write_synced.ensures.run in
     subst (λ (n : ℕ). Runs p.file (TornFrom (512 * (1 - p.place) + 1) n (file_of p.file w)) w w1) c.body_of-body.ensures.size run
 
 pub returns-clause-run : goal.returns-clause-run
 returns-clause-run g c =
     let p = c.args.self.now in
-    torn_run (StandsFor p) (StandsFor p) p.file (512 * (1 - p.place) + 1) 63 (g.S.Outside.world c.args.store.now) (g.S.Outside.world c.write_synced.new.store)
-    (λ d i h t. fill_torn p d h i c.requires.closed t) c.requires.stands (write g (goal.at.returns-clause-run g c).After-write_synced)
-
-pub returns-clause-beside : goal.returns-clause-beside
-returns-clause-beside g c =
-    let p = c.args.self.now in
-    run_wider p.file (512 * (1 - p.place) + 1) 63 0 1024 (g.S.Outside.world c.args.store.now) (g.S.Outside.world c.write_synced.new.store) (omega arith) (omega arith) (write g (goal.at.returns-clause-beside g c).After-write_synced)
+    let w = g.S.Outside.world c.args.store.now in
+    let w1 = g.S.Outside.world c.write_synced.new.store in
+    let wrote = write g (goal.at.returns-clause-run g c).After-write_synced in
+    record {
+      run = torn_run (StandsFor p) (StandsFor p) p.file (512 * (1 - p.place) + 1) 63 w w1 (λ d i h t. fill_torn p d h i c.requires.closed t) c.requires.stands wrote;
+      beside = run_wider p.file (512 * (1 - p.place) + 1) 63 0 1024 w w1 (omega arith) (omega arith) wrote;
+    }
 
 pub returns-clause-filled : goal.returns-clause-filled
 unfolding next
@@ -42,8 +42,8 @@ returns-clause-filled g c =
     let w = g.S.Outside.world c.args.store.now in
     let w1 = g.S.Outside.world c.write_synced.new.store in
     let body = c.body_of-body.result in
-    let number = c.body_of-body.ensures.sequence ∙ ap (λ (k : Kept). to_be_bytes w64 (next k.sequence)) c.self.view_is in
+    let number = c.body_of-body.ensures.sequence ∙ ap (λ (k : PairState). to_be_bytes w64 (next k.sequence)) c.self.view_is in
     on_ok_weaker c.write_synced.result
     (λ done. put_done (StandsFor p) (IsFilled p v) p.file (512 * (1 - p.place) + 1) body w w1 (λ d h. fill_done p d h v body c.requires.closed c.body_of-body.ensures.size number c.body_of-body.ensures.value)
     c.requires.stands (g.met.S.Store.reads_image c.args.store.now p.file)
-    (puts_at c.self.inside.file p.file (c.other_start.result + 1) (512 * (1 - p.place) + 1) body w w1 (ap (λ (k : Kept). k.file) c.self.view_is) (ap (λ (k : ℕ). k + 1) c.other_start.ensures.value) done)) c.write_synced.ensures.done
+    (puts_at c.self.inside.file p.file (c.other_start.result + 1) (512 * (1 - p.place) + 1) body w w1 (ap (λ (k : PairState). k.file) c.self.view_is) (ap (λ (k : ℕ). k + 1) c.other_start.ensures.value) done)) c.write_synced.ensures.done

@@ -8,7 +8,7 @@ use Rattle.odb_device.proofs.Time.{begins, goes_on}
 use Rattle.odb_device.proofs.Torn.{stays_from}
 use Rattle.odb_device.proofs.OneCall.{sync_from}
 use Rattle.odb_pair.specs.Places.{Holds}
-use Rattle.odb_pair.specs.CountingPlace.{kept_at}
+use Rattle.odb_pair.specs.CountingPlace.{pair_at}
 use Rattle.odb_pair.specs.Standing.{StandsFor}
 use Rattle.odb_pair.proofs.Front.{fronts, each_kept, answer_front, stands_read}
 use Rattle.odb_pair.proofs.pair.Pair.open.Given.{Over}
@@ -61,7 +61,7 @@ returns-clause-answer g c = answer_front (Ok c.in_ok-counting.counting.value) c.
 pub returns-clause-stands : goal.returns-clause-stands
 returns-clause-stands g c =
     let at = (goal.at.returns-clause-stands g c).After-read_places in
-    let pair = kept_at c.args.file c.in_ok-counting.counting in
+    let pair = pair_at c.args.file c.in_ok-counting.counting in
     each_kept (StandsFor pair) (before g at) (after g at) (keeps g at) (stands_read pair c.in_ok-n.n c.read_at.new.out _ (front g at) (c.in_ok-counting.ensures.stands c.args.file))
 
 pub returns-clause-holds : goal.returns-clause-holds

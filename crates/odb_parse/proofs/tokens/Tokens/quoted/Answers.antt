@@ -1,7 +1,6 @@
-use Rattle.std.proofs.Common.{◌≡◌, Some, Ok, slice_range, subst, sym, ap, ◌∙◌}
+use Rattle.std.proofs.Common.{◌≡◌, Some, Ok, subst, sym, ap, ◌∙◌}
 use Rattle.odb_values.specs.Text.{IsText}
-use Rattle.odb_lex.specs.Token.{value_in}
-use Rattle.odb_parse.proofs.Texts.{value_text, quoted_here}
+use Rattle.odb_parse.proofs.Texts.{quoted_here}
 use Rattle.odb_parse.proofs.tokens.Tokens.quoted.Goals as goal
 
 pub text_of-requires : goal.text_of-requires
@@ -17,4 +16,4 @@ unwrap-requires c =
     let text = c.self.inside.text.now in
     let spelled = quoted_here text c.self.inside.next c.self.inside.kind t c.self.invariant.token c.self.invariant.kind
     (c.in-Ok-Some.is ∙ ap Ok inner) c.in-Quoted.is in
-    c.new.ensures.text.1 (subst IsText (sym c.in_ok-value.ensures) (value_text (value_in (slice_range text t.from t.to)) spelled.value))
+    c.new.ensures.text.1 (subst IsText (sym c.in_ok-value.ensures) spelled.value)

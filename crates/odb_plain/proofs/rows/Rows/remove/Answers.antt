@@ -4,4 +4,4 @@ use Rattle.odb_plain.proofs.Maps.{one_removed}
 use Rattle.odb_plain.proofs.rows.Rows.remove.Goals as goal
 
 pub returns : goal.returns
-returns c = one_removed c.self.inside.rows.entries c.remove.new.self.entries c.args.place.now c.remove.ensures.updates.0 ∙ ap (λ m. map.remove m c.args.place.now) c.self.view_is
+returns c = one_removed c.self.inside.rows.entries c.remove.new.self.entries c.args.at.now c.remove.ensures.updates.0 ∙ ap (λ m. map.remove m c.args.at.now) c.self.view_is

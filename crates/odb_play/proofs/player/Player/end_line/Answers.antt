@@ -1,6 +1,6 @@
 use Rattle.std.proofs.Common.{ℕ, List, [], ◌∷◌, ◌++◌, sym, ap, subst, ◌∙◌}
 use Rattle.odb_model.specs.Play.{machine_after}
-use Rattle.odb_play.specs.Kept.{shown_ended}
+use Rattle.odb_play.specs.LineFront.{read_of_ended}
 use Rattle.odb_play.specs.Played.{LineEnds, BytesEnd}
 use Rattle.odb_play.proofs.Lines.{line_ended}
 use Rattle.odb_play.proofs.Ends.{bytes_not_kept}
@@ -9,14 +9,14 @@ use Rattle.odb_play.proofs.player.Player.end_line.Goals as goal
 
 pub returns-clause-bytes : goal.returns-clause-bytes
 returns-clause-bytes g c = λ h m input answers at none.
-    let shown = c.ended_line-line.ensures ∙ ap shown_ended (c.as_slice.ensures.value ∙ c.in-Ok.ensures.ok) in
-    subst (λ (kept : List ℕ). BytesEnd h m c.answer-ended.new.system kept (input ++ (c.args.part.now ++ 10 ∷ [])) answers c.answer-ended.result (g.H.Outside.world c.args.host.now) (g.H.Outside.world c.answer-ended.new.host)) (sym c.clear.ensures.items)
-    (line_ended fronts_tell h m c.args.self.now.system c.args.self.now.kept.items input c.args.part.now answers c.answer-ended.result c.answer-ended.new.system (g.H.Outside.world c.args.host.now) (g.H.Outside.world c.answer-ended.new.host) at none
+    let shown = c.ended_line-line.ensures ∙ ap read_of_ended (c.as_slice.ensures.value ∙ c.in-Ok.ensures.ok) in
+    subst (λ (front : List ℕ). BytesEnd h m c.answer-ended.new.system front (input ++ (c.args.part.now ++ 10 ∷ [])) answers c.answer-ended.result (g.H.Outside.world c.args.host.now) (g.H.Outside.world c.answer-ended.new.host)) (sym c.clear.ensures.items)
+    (line_ended fronts_tell h m c.args.self.now.system c.args.self.now.front.items input c.args.part.now answers c.answer-ended.result c.answer-ended.new.system (g.H.Outside.world c.args.host.now) (g.H.Outside.world c.answer-ended.new.host) at none
     c.answer-ended.ensures.same
     (subst (λ (line : List ℕ). LineEnds c.args.self.now.system.transdb.header line (machine_after m answers) c.answer-ended.result c.answer-ended.new.system (g.H.Outside.world c.args.host.now) (g.H.Outside.world c.answer-ended.new.host)) shown
     (c.answer-ended.ensures.answer (machine_after m answers) at.stands)))
 
 pub returns-in_default-clause-bytes : goal.returns-in_default-clause-bytes
 returns-in_default-clause-bytes g c = λ h m input answers at none.
-    bytes_not_kept (Unit {0}) h m c.args.self.now.system c.args.self.now.system c.args.self.now.kept.items c.args.self.now.kept.items input (c.args.part.now ++ 10 ∷ []) answers
+    bytes_not_kept (Unit {0}) h m c.args.self.now.system c.args.self.now.system c.args.self.now.front.items c.args.self.now.front.items input (c.args.part.now ++ 10 ∷ []) answers
     (g.H.Outside.world c.args.host.now) c.requires.durable at

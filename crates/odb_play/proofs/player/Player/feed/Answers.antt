@@ -8,15 +8,15 @@ use Rattle.odb_play.proofs.Feeding.{IsFeeding, feeds_none, feeds_line, feeds_sto
 use Rattle.odb_play.proofs.player.Player.feed.Goals as goal
 
 pub loop-end-init : goal.loop-end-init
-loop-end-init g c = feeds_none c.args.self.now.system c.args.self.now.kept.items c.args.piece.now (g.H.Outside.world c.args.host.now) c.requires.durable
+loop-end-init g c = feeds_none c.args.self.now.system c.args.self.now.front.items c.args.piece.now (g.H.Outside.world c.args.host.now) c.requires.durable
 
 pub returns-in_err-end_line-clause-bytes : goal.returns-in_err-end_line-clause-bytes
 returns-in_err-end_line-clause-bytes g c =
     let p = err_from_is_err_and c.from_residual.result c.from_residual.ensures.1 in
     let at : IsLfAt c.in-Some.end c.loop-end.rest.now = lf_at c.loop-end.rest.now c.in-Some.end (sym c.in-Some.ensures) in
     rw (p.1, p.2)
-    (feeds_stop c.args.self.now.system c.args.self.now.kept.items c.args.piece.now (g.H.Outside.world c.args.host.now) c.loop-end.self.system c.loop-end.self.kept.items c.loop-end.rest.now (g.H.Outside.world c.loop-end.host) c.loop-end.invariant
-    (Unit {0}) (Unit {0}) c.in-Some.end at c.in_err-end_line.field-0.0 c.end_line.new.self.system c.end_line.new.self.kept.items (g.H.Outside.world c.end_line.new.host)
+    (feeds_stop c.args.self.now.system c.args.self.now.front.items c.args.piece.now (g.H.Outside.world c.args.host.now) c.loop-end.self.system c.loop-end.self.front.items c.loop-end.rest.now (g.H.Outside.world c.loop-end.host) c.loop-end.invariant
+    (Unit {0}) (Unit {0}) c.in-Some.end at c.in_err-end_line.field-0.0 c.end_line.new.self.system c.end_line.new.self.front.items (g.H.Outside.world c.end_line.new.host)
     (λ h m input answers is. c.in_err-end_line.ensures.bytes h m input answers is at.before))
 
 pub returns-in_err-end_line-clause-only : goal.returns-in_err-end_line-clause-only
@@ -26,20 +26,20 @@ returns-in_err-end_line-clause-only g c =
 pub loop-end-preserved : goal.loop-end-preserved
 loop-end-preserved g c =
     let at : IsLfAt c.in-Some.end c.loop-end.rest.now = lf_at c.loop-end.rest.now c.in-Some.end (sym c.in-Some.ensures) in
-    let next : IsFeeding c.args.self.now.system c.args.self.now.kept.items c.args.piece.now (g.H.Outside.world c.args.host.now) c.end_line.new.self.system c.end_line.new.self.kept.items (drop (c.in-Some.end + 1) c.loop-end.rest.now) (g.H.Outside.world c.end_line.new.host) =
-    feeds_line c.args.self.now.system c.args.self.now.kept.items c.args.piece.now (g.H.Outside.world c.args.host.now) c.loop-end.self.system c.loop-end.self.kept.items c.loop-end.rest.now (g.H.Outside.world c.loop-end.host) c.loop-end.invariant
-    c.in-Some.end at c.end_line.new.self.system c.end_line.new.self.kept.items (g.H.Outside.world c.end_line.new.host)
+    let next : IsFeeding c.args.self.now.system c.args.self.now.front.items c.args.piece.now (g.H.Outside.world c.args.host.now) c.end_line.new.self.system c.end_line.new.self.front.items (drop (c.in-Some.end + 1) c.loop-end.rest.now) (g.H.Outside.world c.end_line.new.host) =
+    feeds_line c.args.self.now.system c.args.self.now.front.items c.args.piece.now (g.H.Outside.world c.args.host.now) c.loop-end.self.system c.loop-end.self.front.items c.loop-end.rest.now (g.H.Outside.world c.loop-end.host) c.loop-end.invariant
+    c.in-Some.end at c.end_line.new.self.system c.end_line.new.self.front.items (g.H.Outside.world c.end_line.new.host)
     (λ h m input answers is. c.in_ok-end_line.ensures.bytes h m input answers is at.before) c.end_line.ensures.only c.end_line.ensures.durable c.end_line.ensures.input in
-    subst (λ (rest : List ℕ). IsFeeding c.args.self.now.system c.args.self.now.kept.items c.args.piece.now (g.H.Outside.world c.args.host.now) c.end_line.new.self.system c.end_line.new.self.kept.items rest (g.H.Outside.world c.end_line.new.host))
+    subst (λ (rest : List ℕ). IsFeeding c.args.self.now.system c.args.self.now.front.items c.args.piece.now (g.H.Outside.world c.args.host.now) c.end_line.new.self.system c.end_line.new.self.front.items rest (g.H.Outside.world c.end_line.new.host))
     (sym (rest_of (c.in-Some.end + 1) c.loop-end.rest.now)) next
 
-pub returns-in_default-keep-clause-bytes : goal.returns-in_default-keep-clause-bytes
-returns-in_default-keep-clause-bytes g c =
-    feeds_not_kept c.args.self.now.system c.args.self.now.kept.items c.args.piece.now (g.H.Outside.world c.args.host.now) c.loop-end.self.system c.loop-end.self.kept.items c.loop-end.rest.now (g.H.Outside.world c.loop-end.host) c.loop-end.invariant
-    c.loop-end.self.kept.items
+pub returns-in_default-extend_front-clause-bytes : goal.returns-in_default-extend_front-clause-bytes
+returns-in_default-extend_front-clause-bytes g c =
+    feeds_not_kept c.args.self.now.system c.args.self.now.front.items c.args.piece.now (g.H.Outside.world c.args.host.now) c.loop-end.self.system c.loop-end.self.front.items c.loop-end.rest.now (g.H.Outside.world c.loop-end.host) c.loop-end.invariant
+    c.loop-end.self.front.items
 
 pub returns-clause-bytes : goal.returns-clause-bytes
 returns-clause-bytes g c = λ h m input answers is.
-    subst (λ (kept : List ℕ). BytesEnd {T = Unit {0}} h m c.loop-end.self.system kept (input ++ c.args.piece.now) answers (Ok (tt {0})) (g.H.Outside.world c.args.host.now) (g.H.Outside.world c.loop-end.host)) (sym c.in-Ok.ensures.ok)
-    (feeds_kept c.args.self.now.system c.args.self.now.kept.items c.args.piece.now (g.H.Outside.world c.args.host.now) c.loop-end.self.system c.loop-end.self.kept.items c.loop-end.rest.now (g.H.Outside.world c.loop-end.host) c.loop-end.invariant
+    subst (λ (front : List ℕ). BytesEnd {T = Unit {0}} h m c.loop-end.self.system front (input ++ c.args.piece.now) answers (Ok (tt {0})) (g.H.Outside.world c.args.host.now) (g.H.Outside.world c.loop-end.host)) (sym c.in-Ok.ensures.ok)
+    (feeds_kept c.args.self.now.system c.args.self.now.front.items c.args.piece.now (g.H.Outside.world c.args.host.now) c.loop-end.self.system c.loop-end.self.front.items c.loop-end.rest.now (g.H.Outside.world c.loop-end.host) c.loop-end.invariant
     (no_lf c.loop-end.rest.now (sym c.in_default.ensures)) h m input answers is)

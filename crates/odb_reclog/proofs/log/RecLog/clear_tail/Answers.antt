@@ -5,8 +5,8 @@ use Rattle.odb_device.specs.Images.{ReadsImage, TornFrom, IsKept}
 use Rattle.odb_device.specs.Calls.{Stays}
 use Rattle.odb_device.specs.Moments.{Runs}
 use Rattle.odb_reclog.specs.Moments.{KeepsLists}
-use Rattle.odb_reclog.specs.Standing.{Log, IsLog, AreZero, Stands, list_of}
-use Rattle.odb_reclog.specs.Clearing.{ReadsZero}
+use Rattle.odb_reclog.specs.Standing.{Log, IsLog, Stands, list_of}
+use Rattle.odb_device.specs.Zeros.{AreZero, ReadsZero}
 use Rattle.odb_reclog.proofs.Standing.{cleared_log}
 use Rattle.odb_reclog.proofs.Tails.{half_log, tail_run, tail_unwritten, tail_untouched, half_stands, half_list, cleared_stands, cleared_list}
 use Rattle.odb_reclog.proofs.log.RecLog.clear_tail.Given.{Over}

@@ -1,25 +1,28 @@
-use Rattle.std.proofs.Common.{◌≡◌, ℕ, ◌-◌, sym, subst}
-use Rattle.std.specs.Prelude.{option_map}
-use Rattle.odb_device.specs.World.{file_of}
-use Rattle.odb_device.specs.Moments.{Runs}
-use Rattle.odb_reclog.specs.Moments.{KeepsLists}
-use Rattle.odb_reclog.specs.Ends.{closed_at}
-use Rattle.odb_reclog.proofs.Gates.{closes_kept}
-use Rattle.odb_reclog.proofs.Opens.{open_run}
+use Rattle.std.proofs.Common.{◌-◌}
+use Rattle.odb_device.specs.World.{World}
+use Rattle.odb_reclog.specs.Regions.{KeepsListFrom, region}
+use Rattle.odb_reclog.specs.declared.region.Region.{Region}
+use Rattle.odb_reclog.proofs.Opens.{open_run, opened_later}
 use Rattle.odb_reclog.proofs.log.RecLog.open.Given.{Over}
 use Rattle.odb_reclog.proofs.log.RecLog.open.Goals as goal
 use Rattle.odb_reclog.proofs.log.RecLog.open.Goals.{After-close_list}
 
--- whatever the closing answered
-run : (g : Over) (c : After-close_list g)
-    → Runs c.args.file
-    (KeepsLists c.args.start c.args.end c.args.first c.args.start (c.args.end - c.args.start)
-    (file_of c.args.file (g.S.Outside.world c.args.store.now))) (g.S.Outside.world c.args.store.now)
-    (g.S.Outside.world c.close_list.new.store)
-run g c =
-    open_run c.args.start c.args.end c.args.first c.args.start (c.args.end - c.args.start) c.args.file (g.S.Outside.world c.args.store.now)
-    (g.S.Outside.world c.settle.new.store) (g.S.Outside.world c.close_list.new.store)
-    (g.met.S.Store.reads_image c.args.store.now c.args.file) c.settle.ensures.run c.in_ok-found.ensures.kept c.close_list.ensures.run
+module _ (g : Over) (c : After-close_list g) where
+  abbrev r : Region
+  r = region c.args.file c.args.start c.args.end c.args.first
+
+  abbrev old : World
+  old = g.S.Outside.world c.args.store.now
+
+  abbrev new : World
+  new = g.S.Outside.world c.close_list.new.store
+
+  -- whatever the closing answered
+  run : KeepsListFrom c.args.start r old new
+  run =
+      open_run c.args.start c.args.end c.args.first c.args.start (c.args.end - c.args.start) c.args.file old
+      (g.S.Outside.world c.settle.new.store) new (g.met.S.Store.reads_image c.args.store.now c.args.file)
+      c.settle.ensures.run c.in_ok-found.ensures.kept c.close_list.ensures.run
 
 pub returns-in_err-log-clause-run : goal.returns-in_err-log-clause-run
 returns-in_err-log-clause-run g c = run g (goal.at.returns-in_err-log-clause-run g c).After-close_list
@@ -27,11 +30,8 @@ returns-in_err-log-clause-run g c = run g (goal.at.returns-in_err-log-clause-run
 pub returns-clause-run : goal.returns-clause-run
 returns-clause-run g c = run g (goal.at.returns-clause-run g c).After-close_list
 
-pub returns-clause-closes : goal.returns-clause-closes
-returns-clause-closes g c =
-    let f = c.args.file in
-    let old = file_of f (g.S.Outside.world c.args.store.now) in
-    let new = file_of f (g.S.Outside.world c.close_list.new.store) in
-    let closed : new ≡ option_map (closed_at c.in_ok-found.found.place c.args.end) old =
-    closes_kept c.in_ok-found.found.place c.args.end old (file_of f (g.S.Outside.world c.settle.new.store)) new c.in_ok-found.ensures.kept c.in_ok-log.ensures.closes in
-    subst (λ (p : ℕ). new ≡ option_map (closed_at p c.args.end) old) (sym c.in_ok-log.ensures.end.0) closed
+pub returns-clause-opened : goal.returns-clause-opened
+returns-clause-opened g c =
+    let a = (goal.at.returns-clause-opened g c).After-close_list in
+    opened_later (r g a) c.in_ok-log.log (old g a) (g.S.Outside.world c.settle.new.store) (new g a)
+    c.in_ok-found.ensures.kept c.in_ok-log.ensures.opened

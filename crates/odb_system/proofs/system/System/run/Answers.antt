@@ -1,5 +1,6 @@
 use Rattle.std.proofs.Common.{ap}
 use Rattle.odb_device.specs.World.{file_of}
+use Rattle.odb_plain.specs.Form.{statement_of}
 use Rattle.odb_transdb.specs.Standing.{Db}
 use Rattle.odb_system.specs.Held.{session_at}
 use Rattle.odb_system.proofs.Resting.{SameLog, starts_log, executes_log, holds_resting, durable_resting}
@@ -21,19 +22,19 @@ returns-in-Start-clause-durable g c =
     durable_resting c.args.self.now c.start_transaction.new.self (file_of 0 (g.H.Outside.world c.args.host.now)) log c.requires.durable
 
 executed : (g : given.Over) (c : After-execute g) → SameLog c.args.self.now c.execute.new.self
-executed g c = executes_log c.args.self.now c.args.at c.args.statement.now (session_at c.args.self.now c.args.at) c.execute.result c.execute.new.self c.execute.ensures
+executed g c = executes_log c.args.self.now c.args.at (statement_of c.args.form) (session_at c.args.self.now c.args.at) c.execute.result c.execute.new.self c.execute.ensures
 
-pub returns-in-Select-clause-run : goal.returns-in-Select-clause-run
-returns-in-Select-clause-run g c =
-    let log = executed g (goal.at.returns-in-Select-clause-run g c).After-execute in
+pub returns-in-Insert-clause-run : goal.returns-in-Insert-clause-run
+returns-in-Insert-clause-run g c =
+    let log = executed g (goal.at.returns-in-Insert-clause-run g c).After-execute in
     holds_resting c.args.self.now c.execute.new.self (g.H.Outside.world c.args.host.now) log c.requires.durable
 
-pub returns-in-Select-clause-durable : goal.returns-in-Select-clause-durable
-returns-in-Select-clause-durable g c =
-    let log = executed g (goal.at.returns-in-Select-clause-durable g c).After-execute in
+pub returns-in-Insert-clause-durable : goal.returns-in-Insert-clause-durable
+returns-in-Insert-clause-durable g c =
+    let log = executed g (goal.at.returns-in-Insert-clause-durable g c).After-execute in
     durable_resting c.args.self.now c.execute.new.self (file_of 0 (g.H.Outside.world c.args.host.now)) log c.requires.durable
 
-pub returns-in-Select-clause-same : goal.returns-in-Select-clause-same
-returns-in-Select-clause-same g c =
-    let log = executed g (goal.at.returns-in-Select-clause-same g c).After-execute in
+pub returns-in-Insert-clause-same : goal.returns-in-Insert-clause-same
+returns-in-Insert-clause-same g c =
+    let log = executed g (goal.at.returns-in-Insert-clause-same g c).After-execute in
     ap (λ (db : Db). db.header) log.transdb

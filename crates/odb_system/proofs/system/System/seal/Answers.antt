@@ -15,8 +15,8 @@ use Rattle.odb_transdb.specs.Opened.{entries_in}
 use Rattle.odb_transdb.specs.Standing.{room_of}
 use Rattle.odb_transdb.specs.Answers.{IsForceAnswer, HoldsAll, HoldsAllOrMore}
 use Rattle.odb_system.specs.Held.{Held, IsHeld, Begins, IsSealed, IsDoubted, IsAsBefore, need_of, next_of}
-use Rattle.odb_system.specs.Durable.{perhaps_of, IsDurable, HoldsThroughout}
-use Rattle.odb_system.specs.Room.{room_left}
+use Rattle.odb_system.specs.Durable.{history_or_more_of, IsDurable, HoldsThroughout}
+use Rattle.odb_system.specs.Room.{HasRoomLeft}
 use Rattle.odb_codec.proofs.Lengths.{length-entry_image}
 use Rattle.odb_system.proofs.Sealing.{begins_of, room_agrees, image_reads, fault_before, holds_more, holds_same, durable_next, durable_again, durable_either, held_next, held_doubted}
 use Rattle.odb_system.proofs.system.System.seal.Goals as goal
@@ -91,7 +91,7 @@ returns-in-Ok-force-clause-run g c =
     let now : World = g.H.Outside.world c.force.new.store in
     let pushed : c.push.new.self.items ≡ (held g b).history ++ entry g b ∷ [] = grown g b c.push.new.self.items (ap (λ (l : Listed Entry). l.items) c.push.ensures) in
     let after : Held = record { history = c.push.new.self.items; sessions = slice_set c.self.inside.sessions.items c.args.at None; transdb = c.force.new.self; in_doubt = c.self.inside.in_doubt } in
-    let more : perhaps_of after ≡ (held g b).history ++ entry g b ∷ [] = ap (with_doubt c.push.new.self.items) (settled g b) ∙ pushed in
+    let more : history_or_more_of after ≡ (held g b).history ++ entry g b ∷ [] = ap (with_doubt c.push.new.self.items) (settled g b) ∙ pushed in
     subst (λ (h : Held). Runs 0 (HoldsThroughout h after) w now) c.self.view_is
     (holds_more (held g b) after (entry g b) w now (settled g b) (durable g b) more (c.in-Ok-force.ensures.run (entry g b) (reads g b)))
 
@@ -156,22 +156,36 @@ returns-in-InDoubt-clause-durable g c =
     durable_either (held g b) after (entry g b) w now refl (history_is g b) c.force.ensures.same
     (holds_more (held g b) after (entry g b) w now (settled g b) (durable g b) (ap (λ (h : List Entry). h ++ entry g b ∷ []) (history_is g b)) (c.force.ensures.run (entry g b) (reads g b)))
 
-pub returns-in_default-error : goal.returns-in_default-error
-returns-in_default-error g c =
-    let b = (goal.at.returns-in_default-error g c).After-as_slice-2 in
-    let w : World = g.H.Outside.world c.args.host.now in
-    let now : World = g.H.Outside.world c.force.new.store in
-    let only = fault_before (length c.as_slice-2.result.now) (held g b).transdb c.in-Err.error c.in-Err.ensures.answer c.in_default-error.not-Full c.in_default-error.not-InDoubt in
-    let is : c.force.result ≡ Err FaultBefore = c.in-Err.is ∙ ap Err only.0 in
+pub returns-in-FaultBefore-clause-step : goal.returns-in-FaultBefore-clause-step
+returns-in-FaultBefore-clause-step g c =
+    let b = (goal.at.returns-in-FaultBefore-clause-step g c).After-as_slice-2 in
+    let fits : IsForceAnswer (length c.as_slice-2.result.now) (held g b).transdb (Err FaultBefore) =
+    subst (λ (e : TransdbError). IsForceAnswer (length c.as_slice-2.result.now) (held g b).transdb (Err e)) c.in-FaultBefore.is c.in-Err.ensures.answer in
     let after : Held = record { history = c.reserve_place.new.history.items; sessions = c.self.inside.sessions.items; transdb = c.force.new.self; in_doubt = c.self.inside.in_doubt } in
     let as_before : IsAsBefore (held g b) after = record { history = history_is g b; sessions = refl; header = c.force.ensures.same; in_doubt = refl } in
-    record {
-      step = subst (λ (h : Held). (need_of h c.args.at c.args.writes ≤ room_of h.transdb) × ◌≡◌ {A = ℕ} 0 0 × IsAsBefore h after) c.self.view_is
-          (omega (arith, only.1, width g b), refl, as_before);
-      room = subst (λ (h : Held). room_of h.transdb ≡ room_left h) c.self.view_is (room_agrees (held g b) (begins g b));
-      fault = c.force.ensures.fault is;
-      run = subst (λ (h : Held). Runs 0 (HoldsThroughout h after) w now) c.self.view_is (holds_same (held g b) after w now (settled g b) (durable g b) (c.force.ensures.before is));
-      durable = durable_again (held g b) after w now (HoldsAll (held g b).transdb (entries_in (file_of 0 w))) (held g b).transdb (settled g b) (durable g b) (settled g b) (history_is g b)
-          (c.force.ensures.before is) (c.force.ensures.kept is);
-      same = c.force.ensures.same ∙ ap (λ (h : Held). h.transdb.header) c.self.view_is;
-    }
+    subst (λ (h : Held). (need_of h c.args.at c.args.writes ≤ room_of h.transdb) × ◌≡◌ {A = ℕ} 0 0 × IsAsBefore h after) c.self.view_is
+    (omega (arith, fits, width g b), refl, as_before)
+
+pub returns-in-FaultBefore-clause-room : goal.returns-in-FaultBefore-clause-room
+returns-in-FaultBefore-clause-room g c =
+    let b = (goal.at.returns-in-FaultBefore-clause-room g c).After-as_slice-2 in
+    subst HasRoomLeft c.self.view_is (room_agrees (held g b) (begins g b))
+
+pub returns-in-FaultBefore-clause-run : goal.returns-in-FaultBefore-clause-run
+returns-in-FaultBefore-clause-run g c =
+    let b = (goal.at.returns-in-FaultBefore-clause-run g c).After-as_slice-2 in
+    let w : World = g.H.Outside.world c.args.host.now in
+    let now : World = g.H.Outside.world c.force.new.store in
+    let is : c.force.result ≡ Err FaultBefore = c.in-Err.is ∙ ap Err c.in-FaultBefore.is in
+    let after : Held = record { history = c.reserve_place.new.history.items; sessions = c.self.inside.sessions.items; transdb = c.force.new.self; in_doubt = c.self.inside.in_doubt } in
+    subst (λ (h : Held). Runs 0 (HoldsThroughout h after) w now) c.self.view_is (holds_same (held g b) after w now (settled g b) (durable g b) (c.force.ensures.before is))
+
+pub returns-in-FaultBefore-clause-durable : goal.returns-in-FaultBefore-clause-durable
+returns-in-FaultBefore-clause-durable g c =
+    let b = (goal.at.returns-in-FaultBefore-clause-durable g c).After-as_slice-2 in
+    let w : World = g.H.Outside.world c.args.host.now in
+    let now : World = g.H.Outside.world c.force.new.store in
+    let is : c.force.result ≡ Err FaultBefore = c.in-Err.is ∙ ap Err c.in-FaultBefore.is in
+    let after : Held = record { history = c.reserve_place.new.history.items; sessions = c.self.inside.sessions.items; transdb = c.force.new.self; in_doubt = c.self.inside.in_doubt } in
+    durable_again (held g b) after w now (HoldsAll (held g b).transdb (entries_in (file_of 0 w))) (held g b).transdb (settled g b) (durable g b) (settled g b) (history_is g b)
+    (c.force.ensures.before is) (c.force.ensures.kept is)

@@ -8,7 +8,7 @@ use Rattle.odb_system.proofs.Resting.{held_open, session_here}
 use Rattle.odb_system.proofs.system.System.start_transaction.Goals as goal
 
 nothing : Open
-nothing = record { reads = []; own = [] }
+nothing = record { reads = []; write_set = [] }
 
 none_here : (o : Option Open) → is_some o ≡ false → o ≡ None
 none_here None other = refl
@@ -20,7 +20,7 @@ held_in c = record { history = c.self.inside.history.items; sessions = c.self.in
 pub invariant_of-self : goal.invariant_of-self
 unfolding held_in
 invariant_of-self c =
-    held_open (held_in c) c.args.at (Some c.new.result) c.self.invariant (subst (λ (t : Open). AreStorable t.own) (sym c.new.ensures) nothing_stored)
+    held_open (held_in c) c.args.at (Some c.new.result) c.self.invariant (subst (λ (t : Open). AreStorable t.write_set) (sym c.new.ensures) nothing_stored)
 
 pub returns : goal.returns
 unfolding held_in nothing

@@ -1,0 +1,75 @@
+"""What the scripts of this folder share: the program, scripts for it, and runs that are timed."""
+import os
+import platform
+import shutil
+import statistics
+import subprocess
+import sys
+import tempfile
+import time
+from pathlib import Path
+
+TOP = Path(__file__).resolve().parent.parent
+PROGRAM = TOP / "crates/optsql/out/optsql"
+FILE_BYTES = 1024 + 2 * (16 << 20)
+
+
+def need(*tools):
+    """Ends, with nothing measured, where the program or a tool isn't there."""
+    missing = [tool for tool in tools if shutil.which(tool) is None]
+    if not PROGRAM.exists():
+        missing.append(f"{PROGRAM} (./optsql builds it)")
+    if missing:
+        print("skipped: there is no " + ", ".join(missing))
+        sys.exit(0)
+
+
+def folder():
+    """A new folder on the disk of the current one, which goes with the program."""
+    return tempfile.TemporaryDirectory(prefix="optsql-bench-", dir=".")
+
+
+def machine():
+    """The machine, in a line."""
+    model = platform.processor() or platform.machine()
+    try:
+        for line in Path("/proc/cpuinfo").read_text().split("\n"):
+            if line.startswith("model name"):
+                model = line.split(":", 1)[1].strip()
+                break
+    except OSError:
+        pass
+    disk = subprocess.run(["df", "--output=source,fstype", "."], capture_output=True, text=True)
+    where = " ".join(disk.stdout.split("\n")[1].split()) if disk.returncode == 0 else "?"
+    load = os.getloadavg()[0]
+    return (f"{model}, {os.cpu_count()} processors, Linux {platform.release()}, {where}, "
+            f"load {load:.1f}, {time.strftime('%Y-%m-%d')}")
+
+
+def inserts(commits, first=1):
+    """A script of so many transactions, each of which inserts a row and commits."""
+    return "".join(f"1 START\n1 INSERT INTO KV VALUES ({k},{k})\n1 COMMIT\n"
+                   for k in range(first, first + commits))
+
+
+def create(where):
+    """A new database in the folder."""
+    subprocess.run([PROGRAM, "create"], cwd=where, check=True)
+
+
+def timed(words, where, script, said):
+    """Runs the words in the folder with the file `script` as input, and answers the seconds."""
+    with open(script, "rb") as given, open(said, "wb") as taken:
+        begun = time.monotonic()
+        subprocess.run(words, cwd=where, stdin=given, stdout=taken, check=True)
+        return time.monotonic() - begun
+
+
+def play(where, script, said):
+    """Plays the script over the database in the folder, and answers the seconds."""
+    return timed([PROGRAM, "play"], where, script, said)
+
+
+def spread(seconds):
+    """The median of the runs, and between which they lie."""
+    return f"{statistics.median(seconds):.3f} s ({min(seconds):.3f} to {max(seconds):.3f})"

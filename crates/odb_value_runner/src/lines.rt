@@ -1,0 +1,122 @@
+//! Lines on lines of scripts, and on replies.
+use crate::error::LineError;
+use crate::statements::{put_bytes, put_canonical};
+use crate::values::{number_in, tuples_of};
+use odb_model::{Event, Head, Reply};
+use odb_parse::control_of;
+use odb_play::event_of;
+use odb_reply::print_reply;
+use odb_rowfile::{number_of, split_word};
+use odb_values::Frozen;
+use std::alloc::{AllocError, Global};
+
+/// `control LINE`: the step of upkeep that a line asks for, or none.
+pub fn control(out: &mut String, line: &[u8]) -> Result<(), LineError> {
+    match control_of(line) {
+        Some(control) => Ok(write!(out, "{control:?}")?),
+        None => Ok(out.push_str("none")?),
+    }
+}
+
+/// `event LINE`: whom a line is from and what it asks for, in its canonical text; or the reply that
+/// refuses it.
+pub fn event(alloc: Global, out: &mut String, line: &[u8]) -> Result<(), LineError> {
+    match event_of(alloc, line) {
+        Ok(Event::Session { session, statement }) => {
+            write!(out, "{session} ")?;
+            put_canonical(alloc, out, &statement)
+        }
+        Ok(Event::Control(control)) => Ok(write!(out, "! {control:?}")?),
+        Err(refusal) => put_reply(alloc, out, refusal.head(), &refusal.reply()),
+    }
+}
+
+/// Puts the bytes of a reply.
+pub fn put_reply(
+    alloc: Global,
+    out: &mut String,
+    head: Head,
+    reply: &Reply,
+) -> Result<(), LineError> {
+    match print_reply(alloc, head, reply) {
+        Ok(bytes) => put_bytes(out, bytes.as_slice()),
+        Err(_) => Err(LineError::Memory(AllocError)),
+    }
+}
+
+/// `reply HEAD REPLY`: the bytes of a reply under its head.
+pub fn reply(alloc: Global, out: &mut String, given: &str) -> Result<(), LineError> {
+    let (head, rest) = split_word(given);
+    let (word, rest) = split_word(rest);
+    let reply = match word {
+        "ROWS" if rest == "()" => Reply::Rows(Frozen::empty(alloc)),
+        "ROWS" => Reply::Rows(tuples_of(alloc, rest)?),
+        _ => plain_reply(word, rest)?,
+    };
+    put_reply(alloc, out, head_of(head)?, &reply)
+}
+
+fn head_of(word: &str) -> Result<Head, LineError> {
+    match word {
+        "!" => Ok(Head::Control),
+        "?" => Ok(Head::Unknown),
+        _ => Ok(Head::Session(number_in(word)?.0)),
+    }
+}
+
+/// The reply of a word and the numbers behind it.
+fn plain_reply(word: &str, rest: &str) -> Result<Reply, LineError> {
+    if rest == "" {
+        return bare_reply(word);
+    }
+    let (first, rest) = split_word(rest);
+    let Some(first) = number_of(first) else {
+        return Err(LineError::Unreadable("a number is wanted"));
+    };
+    if rest == "" {
+        return number_reply(word, first);
+    }
+    match (word, number_of(rest)) {
+        ("FULL", Some(room)) => Ok(Reply::Full { need: first, room }),
+        _ => Err(LineError::Unreadable("no reply has this word")),
+    }
+}
+
+/// The reply of a word alone.
+fn bare_reply(word: &str) -> Result<Reply, LineError> {
+    match word {
+        "OK" => Ok(Reply::Okay),
+        "END" => Ok(Reply::End),
+        "LONG" => Ok(Reply::Long),
+        "LINE" => Ok(Reply::Line),
+        "NOSESSION" => Ok(Reply::NoSession),
+        "NOTYET" => Ok(Reply::NotYet),
+        "NOTRANSACTION" => Ok(Reply::NoTransaction),
+        "INTRANSACTION" => Ok(Reply::InTransaction),
+        "DUPLICATE" => Ok(Reply::Duplicate),
+        "TOOMANYWRITES" => Ok(Reply::TooManyWrites),
+        "MEMORY" => Ok(Reply::Memory),
+        _ => Err(LineError::Unreadable("no reply has this word")),
+    }
+}
+
+/// The reply of a word with a number.
+fn number_reply(word: &str, number: u64) -> Result<Reply, LineError> {
+    match word {
+        "DONE" => Ok(Reply::Done(number)),
+        "COMMITTED" => Ok(Reply::Committed(number)),
+        "ENDED" => Ok(Reply::Ended(number)),
+        "INDOUBT" => Ok(Reply::InDoubt(number)),
+        "CHARACTER" => Ok(Reply::Character(number)),
+        "TEXT" => Ok(Reply::Text(number)),
+        "NUMBER" => Ok(Reply::Number(number)),
+        "SYNTAX" => Ok(Reply::Syntax(number)),
+        "HALTED" => Ok(Reply::Halted(number)),
+        "CONFLICT" => Ok(Reply::Conflict(number)),
+        "FAULT" => match u32::try_from(number) {
+            Ok(file) => Ok(Reply::Fault(file)),
+            Err(_) => Err(LineError::Unreadable("no file has this number")),
+        },
+        _ => Err(LineError::Unreadable("no reply has this word")),
+    }
+}
