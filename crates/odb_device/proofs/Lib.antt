@@ -4,5 +4,8 @@ pub mod Torn
 pub mod OneCall
 pub mod Puts
 pub mod Talking
-pub mod Crash
 pub mod Zeroing
+pub mod Stretches
+pub mod TornSets
+pub mod Frames
+pub mod Writing

@@ -7,3 +7,8 @@ pub mod Connections
 pub mod Moments
 pub mod Laws
 pub mod Zeros
+pub mod Steps
+pub mod TornSets
+pub mod Writing
+pub mod Frames
+pub mod Told

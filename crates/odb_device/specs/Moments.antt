@@ -31,24 +31,9 @@ pub record Runs (file : ℕ) (P : Option File → Type 0) (old new : World) : Ty
 abbrev pub WritesWithin : ℕ → ℕ → ℕ → World → World → Type 0
 WritesWithin file at n old new = Runs file (TornFrom at n (file_of file old)) old new
 
--- the store tells the same files, the past stays, counts don't fall, and at each moment from old to
--- new Q holds
-pub record Passes (Q : Moment → Type 0) (old new : World) : Type 0 where
-  pub later : old.time ≤ new.time
-  pub past : (k : ℕ) → k ≤ old.time → new.moment k ≡ old.moment k
-  pub told : (g : ℕ) → is_some (file_of g new) ≡ is_some (file_of g old)
-  pub faults : (g : ℕ) → old.faults g ≤ new.faults g
-  pub take_faults : old.talk.take_faults ≤ new.talk.take_faults
-  pub say_faults : old.talk.say_faults ≤ new.talk.say_faults
-  pub each : EachMoment Q old new
-
 -- the images of a moment: one for each file, independent of one another
 abbrev pub AreImages : Moment → (ℕ → List ℕ) → Type 0
 AreImages m images = (file : ℕ) → IsImageOf (m.files file) (images file)
-
--- with all bytes said by then and any images, Q
-abbrev pub EachCrash : (Option (List ℕ) → (ℕ → List ℕ) → Type 0) → Moment → Type 0
-EachCrash Q m = (images : ℕ → List ℕ) → AreImages m images → Q m.said images
 
 -- with the bytes said since an earlier world and any images, Q, where what is said is told
 abbrev pub EachCrashSince : World → (List ℕ → (ℕ → List ℕ) → Type 0) → Moment → Type 0

@@ -212,6 +212,13 @@ impl Pair {
         self.value
     }
 
+    /// The number of the file that has the pair.
+    pub fn file(&self) -> u32
+        ensures { result ≡ self.now.file }
+    {
+        self.file
+    }
+
     /// Closes the gate of the place that doesn't count, where it isn't closed on the disk: at most
     /// one write and one sync.
     fn close<S: Store>(&mut self, store: &mut S) -> Result<(), Failed>

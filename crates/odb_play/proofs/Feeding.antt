@@ -7,7 +7,6 @@ use Rattle.odb_device.specs.Console.{TakesNothing}
 use Rattle.odb_device.proofs.Talking.{talks_none}
 use Rattle.odb_model.specs.Machine.{Machine}
 use Rattle.odb_model.specs.Play.{Answer}
-use Rattle.odb_transdb.specs.declared.header.Header.{Header}
 use Rattle.odb_system.specs.Held.{Held}
 use Rattle.odb_system.specs.Durable.{IsDurable}
 use Rattle.odb_play.specs.declared.player.TheConstants.{FRONT}
@@ -23,7 +22,7 @@ use Rattle.odb_play.proofs.Ends.{bytes_none, bytes_then, bytes_longer, bytes_kep
 -- what a call leaves that got these bytes
 abbrev pub Feeds : {T : Type 0} → Held → List ℕ → List ℕ → Result T Stop → Held → List ℕ → World → World → Type 0
 Feeds held kept bytes result after line old new =
-    (h : Header) (m : Machine) (input : List ℕ) (answers : List Answer) → IsAt h m held kept input answers → BytesEnd h m after line (input ++ bytes) answers result old new
+    (m : Machine) (input : List ℕ) (answers : List Answer) → IsAt m held kept input answers old → BytesEnd m after line (input ++ bytes) answers result old new
 
 -- some bytes of the piece are done, and these are left
 pub record IsFeeding (held : Held) (kept piece : List ℕ) (start : World) (now_held : Held) (now_kept rest : List ℕ) (now : World) : Type 0 where
@@ -41,7 +40,7 @@ pub feeds_none : (held : Held) (kept piece : List ℕ) (w : World) → IsDurable
 feeds_none held kept piece w durable = record {
   done = [];
   split = refl;
-  fed = λ h m input answers at. bytes_none h m held kept input answers (tt {0}) w durable at;
+  fed = λ m input answers at. bytes_none m held kept input answers (tt {0}) w at;
   only = touches_talks 0 w w (talks_none w);
   durable = durable;
   input = (refl, refl);
@@ -51,9 +50,9 @@ module _ (held : Held) (kept piece : List ℕ) (start : World) (now_held : Held)
   -- more bytes after those that are done
   feeds_more : {U : Type 0} (part : List ℕ) (result : Result U Stop) (after : Held) (line : List ℕ) (new : World)
       → Feeds now_held now_kept part result after line now new → Feeds held kept (feeding.done ++ part) result after line start new
-  feeds_more part result after line new then = λ h m input answers at.
-      subst (λ (x : List ℕ). BytesEnd h m after line x answers result start new) (append_assoc input feeding.done part)
-      (bytes_then h m now_held now_kept (input ++ feeding.done) part answers (tt {0}) after line start now new result (feeding.fed h m input answers at) (λ all now_at. then h m (input ++ feeding.done) all now_at))
+  feeds_more part result after line new then = λ m input answers at.
+      subst (λ (x : List ℕ). BytesEnd m after line x answers result start new) (append_assoc input feeding.done part)
+      (bytes_then m now_held now_kept (input ++ feeding.done) part answers (tt {0}) after line start now new result (feeding.fed m input answers at) (λ all now_at. then m (input ++ feeding.done) all now_at))
 
   -- how the piece goes on behind a line
   split_line : (n : ℕ) → IsLfAt n rest → piece ≡ feeding.done ++ (take n rest ++ 10 ∷ []) ++ drop (n + 1) rest
@@ -77,23 +76,23 @@ module _ (held : Held) (kept piece : List ℕ) (start : World) (now_held : Held)
   -- a line of the piece was not answered wholly
   pub feeds_stop : (T U : Type 0) (n : ℕ) → IsLfAt n rest → (stop : Stop) (after : Held) (line : List ℕ) (new : World)
       → Feeds {T = T} now_held now_kept (take n rest ++ 10 ∷ []) (Err stop) after line now new → Feeds {T = U} held kept piece (Err stop) after line start new
-  feeds_stop T U n at stop after line new then = λ h m input answers is.
-      subst (λ (x : List ℕ). BytesEnd {T = U} h m after line x answers (Err stop) start new)
+  feeds_stop T U n at stop after line new then = λ m input answers is.
+      subst (λ (x : List ℕ). BytesEnd {T = U} m after line x answers (Err stop) start new)
       (append_assoc input (feeding.done ++ (take n rest ++ 10 ∷ [])) (drop (n + 1) rest) ∙ ap (λ x. input ++ x) (sym (split_line n at)))
-      (bytes_longer T U h m after after line line (input ++ (feeding.done ++ (take n rest ++ 10 ∷ []))) (drop (n + 1) rest) answers stop start new
-      (feeds_more {U = T} (take n rest ++ 10 ∷ []) (Err stop) after line new then h m input answers is))
+      (bytes_longer T U m after after line line (input ++ (feeding.done ++ (take n rest ++ 10 ∷ []))) (drop (n + 1) rest) answers stop start new
+      (feeds_more {U = T} (take n rest ++ 10 ∷ []) (Err stop) after line new then m input answers is))
 
   -- the rest has no LF, and is kept
   pub feeds_kept : HasNoLf rest → Feeds {T = Unit {0}} held kept piece (Ok (tt {0})) now_held (now_kept ++ take (FRONT + 1 - length now_kept) rest) start now
   feeds_kept none = subst (λ (x : List ℕ). Feeds {T = Unit {0}} held kept x (Ok (tt {0})) now_held (now_kept ++ take (FRONT + 1 - length now_kept) rest) start now) (sym feeding.split)
       (feeds_more rest (Ok (tt {0})) now_held (now_kept ++ take (FRONT + 1 - length now_kept) rest) now
-      (λ h m input answers at. bytes_kept h m now_held now_kept input rest answers (tt {0}) now none feeding.durable at))
+      (λ m input answers at. bytes_kept m now_held now_kept input rest answers (tt {0}) now none at))
 
   -- the rest has no LF, and could not be kept
   pub feeds_not_kept : (line : List ℕ) → Feeds {T = Unit {0}} held kept piece (Err NoMemory) now_held line start now
   feeds_not_kept line = subst (λ (x : List ℕ). Feeds {T = Unit {0}} held kept x (Err NoMemory) now_held line start now) (sym feeding.split)
       (feeds_more {U = Unit {0}} rest (Err NoMemory) now_held line now
-      (λ h m input answers at. bytes_not_kept (Unit {0}) h m now_held now_held now_kept line input rest answers now feeding.durable at))
+      (λ m input answers at. bytes_not_kept (Unit {0}) m now_held now_held now_kept line input rest answers now at))
 
 -- what follows a place, as it is cut out of a slice
 pub rest_of : (n : ℕ) (bytes : List ℕ) → take (length bytes - n) (drop n bytes) ≡ drop n bytes

@@ -10,4 +10,5 @@ pub mod Ends
 pub mod Playing
 pub mod Told
 pub mod Feeding
+pub mod Commits
 pub mod Starting

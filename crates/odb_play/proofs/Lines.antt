@@ -3,16 +3,16 @@ use Rattle.std.proofs.Common.{◌≡◌, ℕ, ◌+◌, ◌-◌, true, false, Lis
 use Rattle.std.specs.Prelude.{◌==◌, ◌||◌, Result, Ok, Err}
 use Rattle.std.proofs.lemmas.List.{append-nil}
 use Rattle.std.proofs.Math.Seq.{take-length}
-use Rattle.odb_device.specs.World.{World}
+use Rattle.odb_device.specs.World.{World, present}
 use Rattle.odb_device.specs.Console.{Says, SaysNothing}
 use Rattle.odb_device.proofs.Talking.{adds_none}
 use Rattle.odb_model.specs.Machine.{Machine}
 use Rattle.odb_model.specs.Script.{ended_lines, open_line, without_cr}
 use Rattle.odb_model.specs.Play.{Answer, IsAnswer, IsRun, machine_after}
-use Rattle.odb_transdb.specs.declared.header.Header.{Header}
 use Rattle.odb_model.proofs.Cut.{ended_lines-more, open_line-more, ended_lines-ended, open_line-ended}
 use Rattle.odb_model.proofs.Fronts.{IsFrontOf, kept-more, front-ended}
 use Rattle.odb_system.specs.Held.{Held, StandsFor}
+use Rattle.odb_system.specs.Kept.{Rests}
 use Rattle.odb_play.specs.declared.player.TheConstants.{FRONT}
 use Rattle.odb_play.specs.declared.player.Stop.{Stop}
 use Rattle.odb_play.specs.declared.player.Stop.TheVariants.{WriteFault, NoMemory}
@@ -85,21 +85,22 @@ module _ (fronts_tell : FrontsTell) where
       subst (λ (x : List (List ℕ)). IsRun m x (answers ++ answer ∷ [])) (sym (take-length (ended_lines (input ++ (part ++ 10 ∷ []))))) (answered_line m kept input part answers answer line so_far none told)
 
   -- the bytes of a line came whole, and it is answered
-  line_ended_under : {T : Type 0} (h : Header) (m : Machine) (held : Held) (kept input part : List ℕ) (answers : List Answer) (result : Result T Stop) (after : Held) (old new : World)
-      → IsAt h m held kept input answers → HasNoLf part → after.transdb.header ≡ held.transdb.header
-      → LineEnds h (read_of_ended (kept ++ take (FRONT + 1 - length kept) part)) (machine_after m answers) result after old new
-      → BytesEnd h m after [] (input ++ (part ++ 10 ∷ [])) answers result old new
-  line_ended_under h m held kept input part answers (Ok done) after old new at none same ends = (
-    ends.0 ∷ [],
-    record {
-      run = answered_line m kept input part answers ends.0 at.line at.run none ends.1;
-      stands = subst (λ (x : Machine). StandsFor after x) (sym (machine_after-append m answers (ends.0 ∷ []))) ends.2;
-      header = same ∙ at.header;
-      line = ap line_front (sym (ap open_line (sym (append_assoc input part (10 ∷ []))) ∙ open_line-ended (input ++ part)));
-    },
-    ends.3,
-  )
-  line_ended_under h m held kept input part answers (Err WriteFault) after old new at none same ends = record {
+  pub line_ended : {T : Type 0} (m : Machine) (held : Held) (kept input part : List ℕ) (answers : List Answer) (result : Result T Stop) (after : Held) (old new : World)
+      → IsAt m held kept input answers old → HasNoLf part
+      → LineEnds (read_of_ended (kept ++ take (FRONT + 1 - length kept) part)) (machine_after m answers) result after old new
+      → BytesEnd m after [] (input ++ (part ++ 10 ∷ [])) answers result old new
+  line_ended m held kept input part answers (Ok done) after old new at none ends =
+      let last : machine_after m (answers ++ ends.0 ∷ []) ≡ ends.0.after = machine_after-append m answers (ends.0 ∷ []) in (
+        ends.0 ∷ [],
+        record {
+          run = answered_line m kept input part answers ends.0 at.line at.run none ends.1;
+          stands = subst (λ (x : Machine). StandsFor after x) (sym last) ends.2;
+          rests = subst (λ (x : Machine). Rests x (present new)) (sym last) ends.3.rests;
+          line = ap line_front (sym (ap open_line (sym (append_assoc input part (10 ∷ []))) ∙ open_line-ended (input ++ part)));
+        },
+        ends.3,
+      )
+  line_ended m held kept input part answers (Err WriteFault) after old new at none ends = record {
     more = [];
     last = ends.0;
     count = length (ended_lines (input ++ (part ++ 10 ∷ [])));
@@ -107,7 +108,7 @@ module _ (fronts_tell : FrontsTell) where
     part = ends.2;
     broken = ends.3;
   }
-  line_ended_under h m held kept input part answers (Err NoMemory) after old new at none same ends = record {
+  line_ended m held kept input part answers (Err NoMemory) after old new at none ends = record {
     more = [];
     untold = ends.0 ∷ [];
     few = omega arith;
@@ -116,12 +117,3 @@ module _ (fronts_tell : FrontsTell) where
     part = ends.2;
     says = says_nothing old new ends.3;
   }
-
-  -- the same, under the header of the system
-  pub line_ended : {T : Type 0} (h : Header) (m : Machine) (held : Held) (kept input part : List ℕ) (answers : List Answer) (result : Result T Stop) (after : Held) (old new : World)
-      → IsAt h m held kept input answers → HasNoLf part → after.transdb.header ≡ held.transdb.header
-      → LineEnds held.transdb.header (read_of_ended (kept ++ take (FRONT + 1 - length kept) part)) (machine_after m answers) result after old new
-      → BytesEnd h m after [] (input ++ (part ++ 10 ∷ [])) answers result old new
-  line_ended h m held kept input part answers result after old new at none same ends =
-      line_ended_under h m held kept input part answers result after old new at none same
-      (subst (λ (x : Header). LineEnds x (read_of_ended (kept ++ take (FRONT + 1 - length kept) part)) (machine_after m answers) result after old new) at.header ends)

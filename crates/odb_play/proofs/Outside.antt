@@ -1,74 +1,38 @@
 -- How the parts of a play follow one another: what they change, and the counts.
-use Rattle.std.proofs.Common.{◌≡◌, inl, inr, ℕ, ◌+◌, ◌-◌, ◌^◌, ◌≤◌, Bool, true, false, cond, List, [], ◌∷◌, ◌++◌, length, Option, refl, sym, ◌∙◌, ap, subst, arith, length-append}
-use Rattle.std.specs.Prelude.{is_some, min}
+use Rattle.std.proofs.Common.{◌≡◌, ℕ, ◌+◌, ◌-◌, ◌^◌, ◌≤◌, Bool, true, false, cond, List, [], ◌∷◌, ◌++◌, length, Option, refl, sym, ◌∙◌, ap, subst, arith, length-append}
+use Rattle.std.specs.Prelude.{min}
 use Rattle.std.specs.List.{filter}
-use Rattle.std.proofs.lemmas.Bool.{cases_lt}
 use Rattle.std.proofs.lemmas.List.Elements.{filter-append}
-use Rattle.odb_device.specs.World.{Moment, Talk, World, present}
-use Rattle.odb_device.specs.Counts.{Rose, Grows}
+use Rattle.odb_device.specs.World.{File, Moment, World}
+use Rattle.odb_device.specs.Counts.{Rose}
 use Rattle.odb_device.specs.Console.{Talks, SaysOnly}
-use Rattle.odb_device.specs.Moments.{ChangesOnly}
-use Rattle.odb_device.proofs.Talking.{grows_same, grows_then}
-use Rattle.odb_model.specs.Play.{Answer, RiseOnly, tells_fault, faults_told}
+use Rattle.odb_device.specs.Moments.{Runs}
+use Rattle.odb_device.specs.Steps.{Steps, Files, IsAsIn, OnlyThis}
+use Rattle.odb_device.proofs.Stretches.{steps_none, steps_then, steps_weaken, steps_end, steps_of_run, steps_of_talks}
+use Rattle.odb_model.specs.Machine.{Machine}
+use Rattle.odb_model.specs.Play.{Answer, RiseOnly, tells_fault, faults_told, machine_after}
 use Rattle.odb_system.specs.Durable.{Risen}
-use Rattle.odb_play.specs.Outside.{TouchesOnly, RoseBy}
+use Rattle.odb_play.specs.Outside.{Passed, LeavesOthers, TouchesOnly, RoseBy}
+use Rattle.odb_play.specs.Part.{IsCaused, Causes}
 
-pub touches_run : (file : ℕ) (old new : World) → ChangesOnly file old new → TouchesOnly file old new
-touches_run file old new only = record {
-  later = only.later;
-  past = only.past;
-  others = only.others;
-  told = only.told;
-  said = λ k from to.
-      let here : (new.moment k).said ≡ (present old).said = only.said k from to in
-      let last : (present new).said ≡ (present old).said = only.said new.time only.later (omega arith) in
-      (grows_same _ _ here, grows_same _ _ (last ∙ sym here));
-  faults = only.faults;
-  take_faults = omega (arith, ap (λ (t : Talk). t.take_faults) only.talk);
-  say_faults = omega (arith, ap (λ (t : Talk). t.say_faults) only.talk);
-}
+-- whatever holds at each moment
+pub passes : (Q : Moment → Type 0) (old new : World) → Steps Q old new → Passed old new
+passes Q old new steps = steps_weaken Q (λ m. Unit {0}) old new (λ m q. tt) steps
+
+pub passed_then : (old mid new : World) → Passed old mid → Passed mid new → Passed old new
+passed_then old mid new a b = steps_then (λ m. Unit {0}) old mid new a b
+
+pub touches_run : (file : ℕ) (P : Option File → Type 0) (old new : World) → Runs file P old new → TouchesOnly file old new
+touches_run file P old new run = steps_weaken (Files (OnlyThis file P old)) (LeavesOthers file old) old new (λ m only g other. (only g).1 other) (steps_of_run file P old new run).0
 
 pub touches_talks : (file : ℕ) (old new : World) → Talks old new → TouchesOnly file old new
-touches_talks file old new talks = record {
-  later = talks.later;
-  past = talks.past;
-  others = λ k g from to other. talks.files k g from to;
-  told = λ k from to. ap is_some (talks.files k file from to);
-  said = talks.said;
-  faults = λ g. omega (arith, talks.faults g);
-  take_faults = talks.take_faults;
-  say_faults = talks.say_faults;
-}
+touches_talks file old new talks = steps_weaken (Files (IsAsIn old)) (LeavesOthers file old) old new (λ m as_in g other. as_in g) (steps_of_talks old new talks)
 
 pub touches_then : (file : ℕ) (old mid new : World) → TouchesOnly file old mid → TouchesOnly file mid new → TouchesOnly file old new
-touches_then file old mid new a b = record {
-  later = omega (arith, a.later, b.later);
-  past = λ k le. b.past k (omega (arith, a.later)) ∙ a.past k le;
-  others = λ k g from to other. elim (cases_lt mid.time k) [
-    | inl after ↦ b.others k g (omega arith) to other ∙ a.others mid.time g a.later (omega arith) other
-    | inr before ↦ ap (λ (m : Moment). m.files g) (b.past k before) ∙ a.others k g from before other
-  ];
-  told = λ k from to. elim (cases_lt mid.time k) [
-    | inl after ↦ b.told k (omega arith) to ∙ a.told mid.time a.later (omega arith)
-    | inr before ↦ ap (λ (m : Moment). is_some (m.files file)) (b.past k before) ∙ a.told k from before
-  ];
-  said = λ k from to. elim (cases_lt mid.time k) [
-    | inl after ↦
-        let s = b.said k (omega arith) to in
-        (grows_then (present old).said (present mid).said (new.moment k).said (a.said mid.time a.later (omega arith)).0 s.0, s.1)
-    | inr before ↦
-        let s = a.said k from before in
-        let is : (new.moment k).said ≡ (mid.moment k).said = ap (λ (m : Moment). m.said) (b.past k before) in
-        let seam = b.said mid.time (omega arith) b.later in
-        let last = grows_then (present mid).said (new.moment mid.time).said (present new).said seam.0 seam.1 in (
-          subst (Grows (present old).said) (sym is) s.0,
-          subst (λ (m : Option (List ℕ)). Grows m (present new).said) (sym is) (grows_then (mid.moment k).said (present mid).said (present new).said s.1 last),
-        )
-  ];
-  faults = λ g. omega (arith, a.faults g, b.faults g);
-  take_faults = omega (arith, a.take_faults, b.take_faults);
-  say_faults = omega (arith, a.say_faults, b.say_faults);
-}
+touches_then file old mid new a b =
+    steps_then (LeavesOthers file old) old mid new a
+    (steps_weaken (LeavesOthers file mid) (LeavesOthers file old) mid new
+    (λ m others g other. others g other ∙ steps_end (LeavesOthers file old) old mid a g other) b)
 
 -- a count that rose in a later part of a call, or in an earlier one
 pub say_rose_later : (start now new : World) → TouchesOnly 0 start now → Rose now.talk.say_faults new.talk.say_faults → Rose start.talk.say_faults new.talk.say_faults
@@ -114,5 +78,52 @@ pub counted_one : (answer : Answer) (file : ℕ) (old new : World) → old.fault
 counted_one answer file old new later rose = one_counted (tells_fault file answer.reply) answer file old new later rose
 
 -- a step, and the saying of its answer
-pub touches_line : (bytes : List ℕ) (old mid new : World) → ChangesOnly 0 old mid → SaysOnly bytes mid new → TouchesOnly 0 old new
-touches_line bytes old mid new step says = touches_then 0 old mid new (touches_run 0 old mid step) (touches_talks 0 mid new says.talks)
+pub touches_line : (P : Option File → Type 0) (bytes : List ℕ) (old mid new : World) → Runs 0 P old mid → SaysOnly bytes mid new → TouchesOnly 0 old new
+touches_line P bytes old mid new step says = touches_then 0 old mid new (touches_run 0 P old mid step) (touches_talks 0 mid new says.talks)
+
+-- each answer that tells of a fault of the file tells of one by which its count rose
+abbrev pub TellRisen : ℕ → List Answer → Type 0
+TellRisen file [] = Unit {0}
+TellRisen file (a ∷ answers) = (tells_fault file a.reply ≡ true → a.risen file ≡ true) × TellRisen file answers
+
+-- causes of answers, one list behind another
+pub causes_earlier : (m : Machine) (answers : List Answer) (old mid new : World) → Passed old mid → Causes m answers mid new → Causes m answers old new
+causes_earlier m [] old mid new passed causes = passed_then old mid new passed causes
+causes_earlier m (a ∷ answers) old mid new passed causes = (causes.0, causes.1, passed_then old mid causes.0 passed causes.2, causes.3, causes.4, causes.5)
+
+pub causes_then : (m : Machine) (xs ys : List Answer) (old mid new : World) → Causes m xs old mid → Causes (machine_after m xs) ys mid new → Causes m (xs ++ ys) old new
+causes_then m [] ys old mid new first second = causes_earlier m ys old mid new first second
+causes_then m (a ∷ xs) ys old mid new first second = (first.0, first.1, first.2, first.3, first.4, causes_then a.after xs ys first.1 mid new first.5 second)
+
+causes_none : (w : World) → Passed w w
+causes_none w = steps_none (λ m. Unit {0}) w tt
+
+-- one step, and calls behind it
+pub causes_one : (m : Machine) (a : Answer) (old mid new : World) → Passed old mid → IsCaused m a old mid → Passed mid new → Causes m (a ∷ []) old new
+causes_one m a old mid new step cause after = (old, mid, causes_none old, step, cause, after)
+
+-- what the causes tell of the whole of it
+pub causes_passed : (m : Machine) (answers : List Answer) (old new : World) → Causes m answers old new → Passed old new
+causes_passed m [] old new causes = causes
+causes_passed m (a ∷ answers) old new causes =
+    passed_then old causes.0 new causes.2 (passed_then causes.0 causes.1 new causes.3 (causes_passed a.after answers causes.1 new causes.5))
+
+pub causes_rise : (m : Machine) (answers : List Answer) (old new : World) → Causes m answers old new → RiseOnly (RoseBy old new) answers
+causes_rise m [] old new causes = tt
+causes_rise m (a ∷ answers) old new causes =
+    let rest = causes_passed a.after answers causes.1 new causes.5 in
+    let first = passed_then old causes.0 causes.1 causes.2 causes.3 in (
+      λ file up. rose_by_wider old causes.0 causes.1 new file 1 (causes.2.faults file) (rest.faults file) (causes.4.rose file up),
+      rise_wider (RoseBy causes.1 new) (RoseBy old new) answers (λ file n rose. rose_by_wider old causes.1 new new file n (first.faults file) (omega arith) rose)
+          (causes_rise a.after answers causes.1 new causes.5),
+    )
+
+-- and of the faults that the answers tell, where each tells of one that rose
+pub causes_count : (m : Machine) (answers : List Answer) (file : ℕ) (old new : World) → TellRisen file answers → Causes m answers old new → RoseBy old new file (faults_told file answers)
+causes_count m [] file old new tell causes = let later = causes.faults file in omega (arith, later)
+causes_count m (a ∷ answers) file old new tell causes =
+    let one : RoseBy causes.0 causes.1 file (faults_told file (a ∷ [])) = counted_one a file causes.0 causes.1 (causes.3.faults file) (λ told. causes.4.rose file (tell.0 told)) in
+    let first : RoseBy old causes.1 file (faults_told file (a ∷ [])) = rose_by_wider old causes.0 causes.1 causes.1 file (faults_told file (a ∷ [])) (causes.2.faults file) (omega arith) one in
+    let rest : RoseBy causes.1 new file (faults_told file answers) = causes_count a.after answers file causes.1 new tell.1 causes.5 in
+    subst (λ (n : ℕ). RoseBy old new file n) (sym (faults_told-append file (a ∷ []) answers))
+    (rose_by_then old causes.1 new file (faults_told file (a ∷ [])) (faults_told file answers) first rest)

@@ -1,54 +1,43 @@
 -- What an opening leaves, and a play behind it.
-use Rattle.std.proofs.Common.{◌≡◌, inl, inr, ℕ, ◌+◌, ◌-◌, Bool, false, List, [], ◌∷◌, length, drop, Option, Some, None, refl, sym, ◌∙◌, ap, subst, arith}
+use Rattle.std.proofs.Common.{◌≡◌, ◌⊎◌, inl, inr, ℕ, ◌+◌, ◌-◌, Bool, false, List, [], length, drop, Option, Some, None, refl, sym, ◌∙◌, ap, subst, arith}
 use Rattle.std.specs.Prelude.{IsSome, IfSome, is_some, take}
-use Rattle.std.proofs.lemmas.Bool.{cases_lt}
-use Rattle.odb_device.specs.World.{File, Moment, Talk, World, present, file_of, IsObservable}
-use Rattle.odb_device.specs.Images.{EachImage}
+use Rattle.odb_device.specs.World.{File, Talk, World, present, file_of}
+use Rattle.odb_device.specs.Images.{EachImage, ReadsImage}
 use Rattle.odb_device.specs.Counts.{Adds}
-use Rattle.odb_device.specs.Moments.{Runs, AreImages}
-use Rattle.odb_device.proofs.Time.{run_end}
+use Rattle.odb_device.specs.Moments.{Runs}
+use Rattle.odb_device.specs.Steps.{Steps}
+use Rattle.odb_device.proofs.Time.{weakens}
+use Rattle.odb_device.proofs.Stretches.{steps_of_run}
+use Rattle.odb_kept.specs.Kept.{KeptBy}
+use Rattle.odb_kept.proofs.Keeping.{step_within}
+use Rattle.odb_kept.proofs.Running.{opened_then}
 use Rattle.odb_model.specs.declared.entry.Entry.{Entry}
 use Rattle.odb_model.specs.declared.status.Status.{Status}
 use Rattle.odb_model.specs.declared.status.Status.TheVariants.{Done, Usage, ReadFault, WriteFault, FileFault, NoDatabase, Exists, Damaged, NotHeld, InputTooLong, NoMemory}
-use Rattle.odb_model.specs.Machine.{Machine, first_machine}
+use Rattle.odb_model.specs.Machine.{Machine, first_machine, history_or_more}
 use Rattle.odb_model.specs.Script.{ended_lines, all_lines}
 use Rattle.odb_model.specs.State.{IsNumberedFrom}
 use Rattle.odb_model.specs.Width.{records_width}
-use Rattle.odb_model.specs.Play.{Answer, IsRun, Plays, PlayEnds, lines_so_far, most_input, machine_after}
-use Rattle.odb_model.proofs.Told.{Acknowledges-nothing}
+use Rattle.odb_model.specs.Play.{Answer, IsRun, Plays, PlayEnds, lines_so_far, most_input, text_of_answer}
 use Rattle.odb_transdb.specs.declared.header.Header.{Header}
 use Rattle.odb_transdb.specs.Header.{first_held, active_first}
-use Rattle.odb_transdb.specs.Opened.{Opened, holding, opened, entries_of, entries_in}
+use Rattle.odb_pair.specs.Places.{gate}
+use Rattle.odb_transdb.specs.Opened.{Opened, no_database, holding, opened, entries_of, entries_in}
 use Rattle.odb_transdb.specs.Standing.{Db, Stands, IsPlaced}
 use Rattle.odb_transdb.specs.Answers.{KeepsOpened}
 use Rattle.odb_system.specs.Held.{Held, StandsFor, Begins, side_of}
 use Rattle.odb_system.specs.Durable.{IsDurableBy}
-use Rattle.odb_play.specs.Outside.{RoseBy}
-use Rattle.odb_play.specs.Crash.{OpensTo, IsKeptBy, SurvivesCrashes}
-use Rattle.odb_play.specs.Part.{GoesOn}
-use Rattle.odb_play.specs.Played.{IsPlayed}
+use Rattle.odb_system.specs.Kept.{OpensBy, IsKept, Rests}
+use Rattle.odb_system.proofs.Keeping.{rests_durable}
+use Rattle.odb_play.specs.Outside.{LeavesOthers, RoseBy}
+use Rattle.odb_play.specs.Crash.{IsFound, KeepsAtEntry, SurvivesCrashes, LosesNoCommit}
+use Rattle.odb_play.specs.Part.{after_of, Along, IsHeard}
+use Rattle.odb_play.specs.Played.{IsPlayed, IsPlayedOn}
 use Rattle.odb_play.specs.Started.{IsStarted, RefusesOpening}
 use Rattle.odb_play.specs.Opening.{HoldsFrom, IsOpeningOf, IsPlayedFrom, IsRefused, PlayOutcome}
-use Rattle.odb_play.proofs.Outside.{touches_run, touches_then, rose_by_wider, rise_wider}
-use Rattle.odb_play.proofs.Steps.{goes_none, goes_then, history_goes, history_within, answer_leaves}
-use Rattle.odb_play.proofs.Parts.{at_each, since_same}
-
--- each image opens to these entries still
-keeps_opens : (es : List Entry) (old now : Option File) → IsSome old → EachImage (OpensTo es) old → KeepsOpened old now → EachImage (OpensTo es) now
-keeps_opens es None now told each keeps = cc
-keeps_opens es (Some old) None told each keeps = tt
-keeps_opens es (Some old) (Some f) told each keeps = λ image is.
-    let before = keeps image is in
-    let opens : OpensTo es before.0 = each before.0 before.1 in
-    (opens.0, before.2 ∙ opens.1, opens.2)
-
--- a run of answers never makes the history shorter
-goes_run : (m : Machine) (lines : List (List ℕ)) (answers : List Answer) → IsRun m lines answers → GoesOn m (machine_after m answers)
-goes_run m [] [] run = goes_none m
-goes_run m (line ∷ lines) (answer ∷ answers) run =
-    goes_then m answer.after (machine_after answer.after answers) (answer_leaves line m answer run.0).0 (goes_run answer.after lines answers run.1)
-goes_run m [] (answer ∷ answers) run = absurd run
-goes_run m (line ∷ lines) [] run = absurd run
+use Rattle.odb_play.proofs.Outside.{passes, causes_earlier, touches_run, touches_then, rose_by_wider, rise_wider}
+use Rattle.odb_play.proofs.Parts.{audible}
+use Rattle.odb_play.proofs.Commits.{loses_none}
 
 plays_wider : (P Q : ℕ → ℕ → Type 0) (m : Machine) (lines : List (List ℕ)) (answers : List Answer) → ((file n : ℕ) → P file n → Q file n) → Plays P m lines answers → Plays Q m lines answers
 plays_wider P Q m lines answers gives plays = record {
@@ -77,71 +66,121 @@ ends_wider P Q m Exists begun ended input answers output gives ends = absurd end
 ends_wider P Q m (Damaged file at) begun ended input answers output gives ends = absurd ends
 ends_wider P Q m (NotHeld bank mark first) begun ended input answers output gives ends = absurd ends
 
--- however it ends, the history doesn't get shorter
-goes_played : (P : ℕ → ℕ → Type 0) (m : Machine) (status : Status) (begun ended : Bool) (input : List ℕ) (answers : List Answer) (output : List ℕ) → PlayEnds P m status begun ended input answers output
-    → GoesOn m (machine_after m answers)
-goes_played P m Done begun ended input answers output ends = goes_run m (all_lines input) answers ends.2.0.run
-goes_played P m ReadFault begun ended input answers output ends = goes_run m (ended_lines input) answers ends.2.0.run
-goes_played P m InputTooLong begun ended input answers output ends = goes_run m (ended_lines (take most_input input)) answers ends.1.0.run
-goes_played P m WriteFault begun ended input answers output ends = goes_run m (take ends.1.0 (lines_so_far ended input)) answers ends.1.1.run
-goes_played P m NoMemory begun ended input answers output ends = goes_run m (take ends.1.0 (lines_so_far ended input)) answers ends.1.1.run
-goes_played P m Usage begun ended input answers output ends = absurd ends
-goes_played P m (FileFault file) begun ended input answers output ends = absurd ends
-goes_played P m NoDatabase begun ended input answers output ends = absurd ends
-goes_played P m Exists begun ended input answers output ends = absurd ends
-goes_played P m (Damaged file at) begun ended input answers output ends = absurd ends
-goes_played P m (NotHeld bank mark first) begun ended input answers output ends = absurd ends
+-- however it ends, the answers are those of a run
+run_played : (P : ℕ → ℕ → Type 0) (m : Machine) (status : Status) (begun ended : Bool) (input : List ℕ) (answers : List Answer) (output : List ℕ) → PlayEnds P m status begun ended input answers output
+    → (lines : List (List ℕ)) × IsRun m lines answers
+run_played P m Done begun ended input answers output ends = (all_lines input, ends.2.0.run)
+run_played P m ReadFault begun ended input answers output ends = (ended_lines input, ends.2.0.run)
+run_played P m InputTooLong begun ended input answers output ends = (ended_lines (take most_input input), ends.1.0.run)
+run_played P m WriteFault begun ended input answers output ends = (take ends.1.0 (lines_so_far ended input), ends.1.1.run)
+run_played P m NoMemory begun ended input answers output ends = (take ends.1.0 (lines_so_far ended input), ends.1.1.run)
+run_played P m Usage begun ended input answers output ends = absurd ends
+run_played P m (FileFault file) begun ended input answers output ends = absurd ends
+run_played P m NoDatabase begun ended input answers output ends = absurd ends
+run_played P m Exists begun ended input answers output ends = absurd ends
+run_played P m (Damaged file at) begun ended input answers output ends = absurd ends
+run_played P m (NotHeld bank mark first) begun ended input answers output ends = absurd ends
+
+-- the machine at entry, and what is read
+
+-- an image that opens as one from before is kept as that is
+kept_opened : (entry : Machine) (before image : List ℕ) → opened image ≡ opened before → IsKept entry 0 before → IsKept entry 0 image
+kept_opened entry before image same kept = record {
+  log = λ here. elim (kept.log refl) as (λ w. OpensBy entry entry.history image ⊎ OpensBy entry (history_or_more entry) image) [
+    | inl now ↦ inl (opens_same entry.history now)
+    | inr more ↦ inr (opens_same (history_or_more entry) more)
+  ];
+}
+  where
+    opens_same : (es : List Entry) → OpensBy entry es before → OpensBy entry es image
+    opens_same es opens = record { header = opens.header; side = opens.side; first = opens.first; holds = same ∙ opens.holds }
+
+keeps_opened : (entry : Machine) (old now : Option File) → EachImage (IsKept entry 0) old → KeepsOpened old now → EachImage (IsKept entry 0) now
+keeps_opened entry None now each keeps = subst (EachImage (IsKept entry 0)) (sym keeps) tt
+keeps_opened entry (Some old) None each keeps = tt
+keeps_opened entry (Some old) (Some f) each keeps = λ image is. let before = keeps image is in kept_opened entry before.0 image before.2 (each before.0 before.1)
+
+-- no bytes are no database
+no_bytes : opened [] ≡ no_database
+unfolding opened gate
+no_bytes = refl
+
+opens_nothing : (h : Header) (es : List Entry) → opened [] ≡ holding h es → ⊥
+opens_nothing h es e = let both : no_database ≡ holding h es = sym no_bytes ∙ e in cc
+
+-- the file of TRANSDB is told, where a machine asks something of it
+pub told_log : (entry : Machine) (old : World) → KeepsAtEntry entry old → IsSome (file_of 0 old)
+told_log entry old keeps = elim (keeps.told 0) as (λ w. IsSome (file_of 0 old)) [
+  | inl told ↦ told
+  | inr all ↦ absurd (elim ((all []).log refl) as (λ w. ⊥) [ inl now ↦ opens_nothing now.header entry.history now.holds | inr more ↦ opens_nothing more.header (history_or_more entry) more.holds ])
+]
+
+found_by : (entry : Machine) (h : Header) (es : List Entry) (bytes : List ℕ) → opened bytes ≡ holding h es → IsKept entry 0 bytes → IsFound entry (first_machine (side_of h) es)
+found_by entry h es bytes read kept = elim (kept.log refl) as (λ w. IsFound entry (first_machine (side_of h) es)) [
+  | inl now ↦ let same = one_reading now.header entry.history now.holds in record { side = ap side_of same.0 ∙ sym now.side; history = inl same.1 }
+  | inr more ↦ let same = one_reading more.header (history_or_more entry) more.holds in record { side = ap side_of same.0 ∙ sym more.side; history = inr same.1 }
+]
+  where
+    one_reading : (g : Header) (gs : List Entry) → opened bytes ≡ holding g gs → (h ≡ g) × (es ≡ gs)
+    one_reading g gs other = let both : holding h es ≡ holding g gs = sym read ∙ other in ((let x : h ≡ g = cc in x), (let y : es ≡ gs = cc in y))
+
+pub found_read : (entry : Machine) (h : Header) (es : List Entry) (o : Option File) → IsSome o → EachImage (IsKept entry 0) o → ReadsImage o → IfSome o (λ f. opened f.bytes ≡ holding h es) → IsFound entry (first_machine (side_of h) es)
+found_read entry h es None told each reads opens = cc
+found_read entry h es (Some f) told each reads opens = found_by entry h es f.bytes opens (each f.bytes reads)
 
 -- an opening, and a play behind it
 
-module _ (m : Machine) (status : Status) (old mid new : World) (run : Runs 0 (KeepsOpened (file_of 0 old)) old mid) (played : IsPlayed m status mid new) where
+module _ (m : Machine) (status : Status) (old mid new : World) (run : Runs 0 (KeepsOpened (file_of 0 old)) old mid) (rests : Rests m (present mid)) (played_on : IsPlayedOn m status mid new) where
+  abbrev behind : IsPlayed m status mid new
+  behind = played_on.played
+
   silent : (present mid).said ≡ (present old).said
   silent = run.only.said mid.time run.only.later (omega arith)
 
-  abbrev last : Machine
-  last = machine_after m played.answers
-
-  goes : GoesOn m last
-  goes = goes_played (RoseBy mid new) m status mid.talk.has_ended new.talk.has_ended played.input played.answers played.output played.ends
-
-  -- before the first step an image holds the whole history
-  kept_whole : (image : List ℕ) → OpensTo m.history image → IsKeptBy m last [] image
-  kept_whole image opens = record {
-    count = length m.history;
-    within = omega (arith, goes.history, history_within last);
-    opens = subst (λ (es : List Entry). OpensTo es image) (sym (history_goes m last goes)) opens;
-    least = omega arith;
-    told = λ k t. absurd (Acknowledges-nothing k t);
-  }
-
-  crash : SurvivesCrashes m last old new
-  crash told each = λ k from to images are. elim (cases_lt mid.time k) [
-    | inl after ↦
-        let told_mid : IsObservable 0 mid = run.only.told mid.time run.only.later (omega arith) ∙ told in
-        let each_mid : EachImage (OpensTo m.history) (file_of 0 mid) = keeps_opens m.history (file_of 0 old) (file_of 0 mid) told each (run_end 0 (KeepsOpened (file_of 0 old)) old mid run) in
-        subst (λ (o : Option (List ℕ)). IfSome o (λ before. IfSome (new.moment k).said (λ said. IsKeptBy m last (drop (length before) said) (images 0)))) silent
-        (played.crash told_mid each_mid k (omega arith) to images are)
-    | inr before ↦
-        let past : new.moment k ≡ mid.moment k = played.only.past k before in
-        let here : IsSome ((mid.moment k).files 0) = run.only.told k from before ∙ told in
-        let each_here : EachImage (OpensTo m.history) ((mid.moment k).files 0) = keeps_opens m.history (file_of 0 old) ((mid.moment k).files 0) told each (run.each k from before) in
-        let opens : OpensTo m.history (images 0) = at_each (OpensTo m.history) (mid.moment k) images here each_here (subst (λ (x : Moment). AreImages x images) past are) in
-        since_same (λ said. IsKeptBy m last said (images 0)) (present old).said (new.moment k).said (ap (λ (x : Moment). x.said) past ∙ run.only.said k from before) (kept_whole (images 0) opens)
-  ]
-
   pub played_behind : IsPlayed m status old new
   played_behind = record {
-    only = touches_then 0 old mid new (touches_run 0 old mid run.only) played.only;
-    input = played.input;
-    output = played.output;
-    answers = played.answers;
-    takes = subst (λ (t : Talk). Adds played.input t.taken new.talk.taken) run.only.talk played.takes;
-    says = subst (λ (o : Option (List ℕ)). Adds played.output o (present new).said) silent played.says;
-    ends = subst (λ (t : Talk). PlayEnds (RoseBy old new) m status t.has_ended new.talk.has_ended played.input played.answers played.output) run.only.talk
-        (ends_wider (RoseBy mid new) (RoseBy old new) m status mid.talk.has_ended new.talk.has_ended played.input played.answers played.output
-        (λ file n rose. rose_by_wider old mid new new file n (run.only.faults file) (omega arith) rose) played.ends);
-    crash = crash;
+    only = touches_then 0 old mid new (touches_run 0 (KeepsOpened (file_of 0 old)) old mid run) behind.only;
+    input = behind.input;
+    output = behind.output;
+    answers = behind.answers;
+    takes = subst (λ (t : Talk). Adds behind.input t.taken new.talk.taken) run.only.talk behind.takes;
+    says = subst (λ (o : Option (List ℕ)). Adds behind.output o (present new).said) silent behind.says;
+    ends = subst (λ (t : Talk). PlayEnds (RoseBy old new) m status t.has_ended new.talk.has_ended behind.input behind.answers behind.output) run.only.talk
+        (ends_wider (RoseBy mid new) (RoseBy old new) m status mid.talk.has_ended new.talk.has_ended behind.input behind.answers behind.output
+        (λ file n rose. rose_by_wider old mid new new file n (run.only.faults file) (omega arith) rose) behind.ends);
+    causes = causes_earlier m behind.answers old mid new (passes (LeavesOthers 0 old) old mid (touches_run 0 (KeepsOpened (file_of 0 old)) old mid run)) behind.causes;
   }
+
+  -- while the files are opened the machine at entry keeps them
+  opening_kept : (entry : Machine) → KeptBy (IsKept entry) (present old) → Steps (KeptBy (IsKept entry)) old mid
+  opening_kept entry keeps =
+      step_within (IsKept entry) 0 old mid keeps
+      (weakens 0 (KeepsOpened (file_of 0 old)) (EachImage (IsKept entry 0)) old mid (λ o opens. keeps_opened entry (file_of 0 old) o (keeps 0) opens) run)
+
+  along_all : (entry : Machine) → KeptBy (IsKept entry) (present old) → Steps (Along entry m behind.answers (present old).said) old new
+  along_all entry keeps =
+      opened_then IsKept after_of text_of_answer entry m behind.answers old mid new audible (opening_kept entry keeps)
+      (steps_of_run 0 (KeepsOpened (file_of 0 old)) old mid run).1 rests.keeps played_on.kept
+
+  heard_all : IsHeard behind.answers old new
+  heard_all = record {
+    told = played_on.heard.told;
+    untold = played_on.heard.untold;
+    all = played_on.heard.all;
+    alone = played_on.heard.alone;
+    front = played_on.heard.front;
+    rest = played_on.heard.rest;
+    text = played_on.heard.text;
+    says = subst (λ (o : Option (List ℕ)). Adds played_on.heard.front o (present new).said) silent played_on.heard.says;
+  }
+
+  pub survives : ((entry : Machine) → KeepsAtEntry entry old → IsFound entry m) → SurvivesCrashes m behind.answers old new
+  survives found = λ entry keeps. (found entry keeps, along_all entry keeps.keeps)
+
+  pub loses : LosesNoCommit m behind.answers old new
+  loses = λ entry keeps.
+      let lines = run_played (RoseBy mid new) m status mid.talk.has_ended new.talk.has_ended behind.input behind.answers behind.output behind.ends in
+      loses_none m entry lines.0 behind.answers old new lines.1 (told_log entry old keeps) (along_all entry keeps.keeps) heard_all
 
 -- what was opened, as it is told of
 played_opens : (held : Held) (file : Option File) → IfSome file (λ f. opened f.bytes ≡ holding held.transdb.header held.history)
@@ -149,14 +188,25 @@ played_opens : (held : Held) (file : Option File) → IfSome file (λ f. opened 
 played_opens held None opens whole = tt
 played_opens held (Some f) opens whole = (held.transdb.header, opens, refl, whole)
 
-pub played_from : (held : Held) (status : Status) (old mid new : World) → Runs 0 (KeepsOpened (file_of 0 old)) old mid → IsStarted held old mid
-    → IsPlayed (first_machine (side_of held.transdb.header) held.history) status mid new → IsPlayedFrom status old new
-played_from held status old mid new run started played = record {
-  side = side_of held.transdb.header;
-  entries = held.history;
-  opens = played_opens held (file_of 0 old) started.opens started.whole;
-  played = played_behind (first_machine (side_of held.transdb.header) held.history) status old mid new run played;
-}
+-- the files rest behind it
+pub rests_started : (held : Held) (old mid : World) → IsStarted held old mid → Rests (first_machine (side_of held.transdb.header) held.history) (present mid)
+rests_started held old mid started = rests_durable held (first_machine (side_of held.transdb.header) held.history) started.stands started.whole (present mid) started.durable
+
+pub played_from : (held : Held) (status : Status) (old mid new : World) → Runs 0 (KeepsOpened (file_of 0 old)) old mid → ReadsImage (file_of 0 old) → IsStarted held old mid
+    → IsPlayedOn (first_machine (side_of held.transdb.header) held.history) status mid new → IsPlayedFrom status old new
+unfolding played_behind
+played_from held status old mid new run reads started played =
+    let m : Machine = first_machine (side_of held.transdb.header) held.history in
+    let rests : Rests m (present mid) = rests_started held old mid started in
+    record {
+      side = side_of held.transdb.header;
+      entries = held.history;
+      opens = played_opens held (file_of 0 old) started.opens started.whole;
+      played = played_behind m status old mid new run rests played;
+      crash = survives m status old mid new run rests played
+          (λ entry keeps. found_read entry held.transdb.header held.history (file_of 0 old) (told_log entry old keeps) (keeps.keeps 0) reads started.opens);
+      commits = loses m status old mid new run rests played;
+    }
 
 -- by the status
 

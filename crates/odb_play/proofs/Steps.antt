@@ -18,9 +18,15 @@ use Rattle.odb_model.specs.Meaning.{is_built}
 use Rattle.odb_model.specs.Transaction.{Executed, write_set_of, table_keys}
 use Rattle.odb_model.specs.Machine.{Machine, with_session, with_doubt, history_or_more, executed_now, net_of, next_entry, with_entry, in_doubt_of, Starts, Executes, Decides, DecidesBy, Commits, Refuses, UpkeepStep, StatementStep, Step}
 use Rattle.odb_model.specs.Script.{IsRefused}
-use Rattle.odb_model.specs.Play.{Answer, IsAnswer, tells_fault}
+use Rattle.odb_model.specs.Play.{Answer, IsAnswer, IsRun, tells_fault}
 use Rattle.odb_model.proofs.Runs.{is_meant, not_meant}
-use Rattle.odb_play.specs.Part.{GoesOn}
+use Rattle.odb_play.proofs.Outside.{TellRisen}
+
+-- the history never gets shorter, and what may be on the disk besides it stays or grows
+pub record GoesOn (m last : Machine) : Type 0 where
+  pub history : length m.history ≤ length last.history
+  pub more : List Entry
+  pub longer : history_or_more last ≡ history_or_more m ++ more
 
 -- what may be on the disk begins with the history
 pub history_front : (m : Machine) → (rest : List Entry) × (history_or_more m ≡ m.history ++ rest)
@@ -186,6 +192,11 @@ so_refused line (Session s) (Fault f) risen after refusal = absurd refusal
 so_refused line (Session s) (InDoubt k) risen after refusal = absurd refusal
 so_refused line head reply risen after refusal = tt
 
+pub never_doubt : (line : List ℕ) (head : Head) (k : ℕ) → IsRefused line head (InDoubt k) → ⊥
+never_doubt line Unknown k refusal = refusal
+never_doubt line Control k refusal = refusal
+never_doubt line (Session s) k refusal = refusal
+
 pub answer_leaves : (line : List ℕ) (m : Machine) (answer : Answer) → IsAnswer line m answer → GoesOn m answer.after × IsSo answer.risen answer.reply answer.after
 answer_leaves line m answer (inl refusal) = (goes_same m answer.after refusal.1, so_refused line answer.head answer.reply answer.risen answer.after refusal.0)
 answer_leaves line m answer (inr step) = leaves_event m step.0 answer.risen answer.reply answer.after step.3
@@ -198,3 +209,11 @@ fault_rises risen reply after file so told = cc
 
 pub committed_within : (risen : ℕ → Bool) (reply : Reply) (after : Machine) (k : ℕ) → IsSo risen reply after → reply ≡ Committed k → k ≤ length after.history
 committed_within risen reply after k so is = let P : Reply → Type 0 = λ r. IsSo risen r after in subst P is so
+
+-- so along a run: each answer that tells of a fault tells of one by which the count rose
+pub run_tells : (file : ℕ) (m : Machine) (lines : List (List ℕ)) (answers : List Answer) → IsRun m lines answers → TellRisen file answers
+run_tells file m [] [] run = tt
+run_tells file m (line ∷ lines) (answer ∷ answers) run =
+    ((λ told. fault_rises answer.risen answer.reply answer.after file (answer_leaves line m answer run.0).1 told), run_tells file answer.after lines answers run.1)
+run_tells file m [] (answer ∷ answers) run = absurd run
+run_tells file m (line ∷ lines) [] run = absurd run

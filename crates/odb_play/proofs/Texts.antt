@@ -1,7 +1,6 @@
 -- How session lines and statement texts begin with their numbers.
-use Rattle.std.proofs.Common.{◌≡◌, ◌≢◌, ℕ, ◌^◌, ◌<◌, List, [], ◌++◌, codes, refl, sym, ◌∙◌, inl, inr, lit<, append_assoc}
+use Rattle.std.proofs.Common.{◌≡◌, ℕ, ◌<◌, List, ◌++◌, codes, ◌∙◌, inl, lit<, append_assoc}
 use Rattle.std.specs.Fmt.{decimal}
-use Rattle.std.proofs.lemmas.List.{append_cancel_left, append-nil}
 use Rattle.odb_model.specs.Script.{IsSessionLine}
 use Rattle.odb_play.specs.Numbers.{StartsWithNumber}
 use Rattle.odb_play.proofs.Digits.{number_unique}

@@ -1,36 +1,34 @@
 -- A front of a line tells the answer to the line.
-use Rattle.std.proofs.Common.{◌≡◌, ◌≢◌, ℕ, ◌-◌, ◌<◌, Bool, true, false, List, [], ◌∷◌, ◌++◌, length, take, drop, refl, sym, ap, ◌∙◌, subst, Some, None, Option, arith, inl, inr}
-use Rattle.std.specs.Prelude.{MatchBool, Ok, Err}
-use Rattle.odb_model.specs.declared.event.Event.TheVariants.{Session as OfSession}
+use Rattle.std.proofs.Common.{◌≡◌, ◌≢◌, ℕ, ◌-◌, ◌<◌, false, List, [], length, take, drop, refl, sym, ap, ◌∙◌, subst, Option, arith, inl, inr}
+use Rattle.std.specs.Prelude.{Ok, Err}
 use Rattle.odb_model.specs.declared.event.Event.{Event}
 use Rattle.odb_model.specs.declared.reply.Head.{Head}
 use Rattle.odb_model.specs.declared.reply.Reply.{Reply}
-use Rattle.odb_model.specs.declared.reply.Head.TheVariants.{Session}
-use Rattle.odb_system.specs.Held.{Held, StandsFor, Follows}
-use Rattle.odb_device.specs.World.{World, present}
+use Rattle.odb_system.specs.Held.{Held, StandsFor}
+use Rattle.odb_device.specs.World.{File, World, present, file_of}
 use Rattle.odb_device.specs.Counts.{Adds}
 use Rattle.odb_device.specs.Console.{Says, BreaksOff}
 use Rattle.odb_model.specs.Print.{reply_text}
 use Rattle.std.proofs.lemmas.List.{take-append-drop, length-drop}
-use Rattle.odb_device.specs.World.{file_of}
 use Rattle.odb_device.specs.Console.{SaysOnly}
 use Rattle.odb_device.specs.Moments.{Runs}
-use Rattle.odb_device.proofs.Talking.{says_none}
 use Rattle.odb_device.proofs.Time.{begins}
-use Rattle.odb_model.specs.Acknowledged.{Acknowledges}
-use Rattle.odb_model.proofs.Told.{Acknowledges-nothing}
-use Rattle.odb_system.specs.Durable.{IsDurable, HoldsThroughout, Risen}
+use Rattle.odb_device.proofs.Stretches.{steps_none}
+use Rattle.odb_kept.specs.Kept.{KeptByEither}
+use Rattle.odb_kept.proofs.Keeping.{either_before}
+use Rattle.odb_reply.specs.Telling.{TellsAlone}
+use Rattle.odb_system.specs.Durable.{HoldsThroughout, IsDurable}
+use Rattle.odb_system.proofs.Keeping.{holds_either}
+use Rattle.odb_system.specs.Kept.{IsKept, Rests, IsDoubtCaused, Stepped}
 use Rattle.odb_play.specs.declared.player.Stop.TheVariants.{WriteFault as OutputFails, NoMemory as MemoryFails}
+use Rattle.odb_play.specs.Part.{IsCaused}
 use Rattle.odb_play.specs.Played.{Replies, LineEnds}
-use Rattle.odb_play.proofs.Parts.{durable_either, line_part, line_whole}
-use Rattle.odb_model.specs.declared.reply.Reply.TheVariants.{Committed, Memory}
-use Rattle.odb_model.specs.declared.statement.Statement.{Statement}
-use Rattle.odb_model.specs.declared.statement.Statement.TheVariants.{Start, Commit, Select, Insert}
-use Rattle.odb_model.specs.Meaning.{is_built}
-use Rattle.odb_model.specs.Machine.{Machine, Starts, Commits, StatementStep, Refuses, Step}
+use Rattle.odb_play.proofs.Steps.{never_doubt}
+use Rattle.odb_play.proofs.Parts.{line_untold, line_part, line_whole}
+use Rattle.odb_model.specs.declared.reply.Reply.TheVariants.{InDoubt}
+use Rattle.odb_model.specs.Machine.{Machine}
 use Rattle.odb_model.specs.Script.{IsRequest, IsRefused, head_of}
 use Rattle.odb_model.specs.Play.{Answer, IsAnswer, text_of_answer}
-use Rattle.odb_model.specs.Transaction.{Executed}
 use Rattle.odb_model.proofs.Fronts.{IsFrontOf}
 use Rattle.odb_play.specs.declared.player.TheConstants.{FRONT}
 use Rattle.odb_play.proofs.Fronts.{front_asks_nothing, front_refused}
@@ -46,35 +44,45 @@ fronts_tell front line m answer (inl same) is = subst (λ (x : List ℕ). IsAnsw
 fronts_tell front line m answer (inr longer) is = longer_told front line m answer longer.0 longer.1 is
 
 -- the system stepped
-pub replies_event : (line : List ℕ) (m : Machine) (event : Event) (reply : Reply) (held : Held) (old new : World) → IsRequest line event → Follows (Risen old new) m event reply held
+pub replies_event : (line : List ℕ) (m : Machine) (event : Event) (reply : Reply) (held : Held) (old new : World) → IsRequest line event → Stepped m event reply held old new
     → Replies line m (head_of event) reply held old new
-replies_event line m event reply held old new request follows = record {
-  answer = record { head = head_of event; reply = reply; risen = follows.risen; after = follows.after };
-  answer_is = inr (event, request, refl, follows.step);
-  cause = follows.cause;
+replies_event line m event reply held old new request stepped = record {
+  answer = record { head = head_of event; reply = reply; risen = stepped.follows.risen; after = stepped.follows.after };
+  answer_is = inr (event, request, refl, stepped.follows.step);
+  cause = record { rose = stepped.follows.cause; doubt = stepped.doubt };
   head_is = refl;
   reply_is = refl;
-  stands = follows.stands;
+  stands = stepped.follows.stands;
+  keeps = stepped.keeps;
+  quiet = stepped.quiet;
+  rests = stepped.rests;
 }
 
--- no file's count rose
-none_rose : (old new : World) (file : ℕ) → false ≡ true → Risen old new file
-none_rose old new file e = cc
+-- no file's count rose, and nothing is in doubt
+none_caused : (line : List ℕ) (m : Machine) (head : Head) (reply : Reply) (w : World) → IsRefused line head reply → IsCaused m (record { head = head; reply = reply; risen = λ _. false; after = m }) w w
+none_caused line m head reply w refusal = record { rose = λ file e. cc; doubt = no_doubt reply refusal }
+  where
+    no_doubt : (r : Reply) → IsRefused line head r → IsDoubtCaused m r m w w
+    no_doubt (InDoubt k) refused = absurd (never_doubt line head k refused)
+    no_doubt r refused = tt
 
 -- the line was refused
-pub refused : (line : List ℕ) (m : Machine) (head : Head) (reply : Reply) (held : Held) (w : World) → IsRefused line head reply → StandsFor held m → Replies line m head reply held w w
-refused line m head reply held w refusal stands = record {
+pub refused : (line : List ℕ) (m : Machine) (head : Head) (reply : Reply) (held : Held) (w : World) → IsRefused line head reply → StandsFor held m → Rests m (present w) → Replies line m head reply held w w
+refused line m head reply held w refusal stands rests = record {
   answer = record { head = head; reply = reply; risen = λ _. false; after = m };
   answer_is = inl (refusal, refl);
-  cause = none_rose w w;
+  cause = none_caused line m head reply w refusal;
   head_is = refl;
   reply_is = refl;
   stands = stands;
+  keeps = steps_none (KeptByEither (IsKept m) (IsKept m)) w (either_before (IsKept m) (IsKept m) (present w) rests.keeps);
+  quiet = (refl, refl);
+  rests = rests;
 }
 
 -- and nothing was done
-pub rests : (held : Held) (w : World) → IsDurable held (file_of 0 w) → Runs 0 (HoldsThroughout held held) w w
-rests held w durable = begins 0 (HoldsThroughout held held) w (durable_either held (file_of 0 w) durable)
+pub holds_still : (held : Held) (w : World) → IsDurable held (file_of 0 w) → Runs 0 (HoldsThroughout held held) w w
+holds_still held w durable = begins 0 (HoldsThroughout held held) w (holds_either held (file_of 0 w) durable)
 
 -- a rest that is not said is not empty
 some_left : (n : ℕ) (bytes : List ℕ) → n < length bytes → drop n bytes ≢ []
@@ -83,55 +91,51 @@ some_left n bytes within none =
     let left : length (drop n bytes) ≡ length bytes - n = length-drop n bytes in
     omega arith
 
-nothing_tells : (reply : Reply) (front rest : List ℕ) (k : ℕ) → [] ≡ front ++ rest → Acknowledges front k → reply ≡ Committed k
-nothing_tells reply [] rest k split t = absurd (Acknowledges-nothing k t)
-nothing_tells reply (b ∷ front) rest k split t = cc
-
-module _ (line : List ℕ) (m : Machine) (head : Head) (reply : Reply) (before after : Held) (old mid : World) (stood : StandsFor before m) (replies : Replies line m head reply after old mid)
-    (same : after.transdb.header ≡ before.transdb.header) (run : Runs 0 (HoldsThroughout before after) old mid) (durable : IsDurable after (file_of 0 mid)) where
+module _ (line : List ℕ) (m : Machine) (head : Head) (reply : Reply) (held : Held) (P : Option File → Type 0) (old mid : World) (resting : Rests m (present old))
+    (replies : Replies line m head reply held old mid) (run : Runs 0 P old mid) where
   abbrev answer : Answer
   answer = replies.answer
 
-  module _ (text : List ℕ) (new : World) (printed : text ≡ reply_text head reply) (tells : (front rest : List ℕ) (k : ℕ) → text ≡ front ++ rest → Acknowledges front k → reply ≡ Committed k)
-      (says : SaysOnly text mid new) where
+  module _ (text : List ℕ) (new : World) (printed : text ≡ reply_text head reply) (tells : TellsAlone text reply) (says : SaysOnly text mid new) where
     whole : text ≡ text_of_answer answer
     whole = printed ∙ sym (ap (λ h. reply_text h answer.reply) replies.head_is ∙ ap (λ r. reply_text head r) replies.reply_is)
 
-    told : (front rest : List ℕ) (k : ℕ) → text ≡ front ++ rest → Acknowledges front k → answer.reply ≡ Committed k
-    told front rest k split t = replies.reply_is ∙ tells front rest k split t
+    alone : TellsAlone (text_of_answer answer) answer.reply
+    alone = subst (λ (x : List ℕ). TellsAlone x answer.reply) whole (λ front rest k split t. replies.reply_is ∙ tells front rest k split t)
+
+    says_text : SaysOnly (text_of_answer answer) mid new
+    says_text = subst (λ (x : List ℕ). SaysOnly x mid new) whole says
 
     -- the answer was said
-    pub answer_said : {T : Type 0} (done : T) → Says text mid new → LineEnds before.transdb.header line m (Ok done) after old new
+    pub answer_said : {T : Type 0} (done : T) → Says text mid new → LineEnds line m (Ok done) held old new
     answer_said done said = (
       answer,
       replies.answer_is,
       replies.stands,
-      line_whole before.transdb.header line m answer before after text old mid new replies.answer_is stood replies.stands refl same replies.cause run durable says told whole said,
+      line_whole m answer P old mid resting run replies.cause replies.keeps replies.quiet replies.rests new says_text alone (subst (λ (x : List ℕ). Says x mid new) whole said),
     )
 
     -- its text broke off
-    pub answer_breaks : (T : Type 0) → BreaksOff text mid new → LineEnds {T = T} before.transdb.header line m (Err OutputFails) after old new
+    pub answer_breaks : (T : Type 0) → BreaksOff text mid new → LineEnds {T = T} line m (Err OutputFails) held old new
     answer_breaks T breaks =
-        let n : ℕ = breaks.0 in
-        let silent : (present mid).said ≡ (present old).said = run.only.said mid.time run.only.later (omega arith) in (
+        let n : ℕ = breaks.0 in (
           answer,
           replies.answer_is,
-          line_part before.transdb.header line m answer before after text old mid new replies.answer_is stood replies.stands refl same replies.cause run durable says told,
+          line_part m answer P old mid resting run replies.cause replies.keeps replies.quiet replies.rests new says_text alone n (subst (λ (x : List ℕ). Says (take n x) mid new) whole breaks.2),
           record {
             front = take n text;
             rest = drop n text;
             text = sym whole ∙ sym (take-append-drop n text);
             unsaid = some_left n text breaks.1;
-            said = subst (λ (o : Option (List ℕ)). Adds (take n text) o (present new).said) silent breaks.2;
+            said = subst (λ (o : Option (List ℕ)). Adds (take n text) o (present new).said) replies.quiet.0 breaks.2;
           },
         )
 
   -- it could not be printed
-  pub answer_untold : (T : Type 0) → LineEnds {T = T} before.transdb.header line m (Err MemoryFails) after old mid
+  pub answer_untold : (T : Type 0) → LineEnds {T = T} line m (Err MemoryFails) held old mid
   answer_untold T = (
     answer,
     replies.answer_is,
-    line_part before.transdb.header line m answer before after [] old mid mid replies.answer_is stood replies.stands refl same replies.cause run durable (says_none mid)
-        (λ front rest k split t. nothing_tells answer.reply front rest k split t),
-    run.only.said mid.time run.only.later (omega arith),
+    line_untold m answer P old mid resting run replies.cause replies.keeps replies.quiet replies.rests,
+    replies.quiet.0,
   )

@@ -11,6 +11,7 @@ use Rattle.odb_transdb.specs.Header.{first_held}
 use Rattle.odb_transdb.specs.Opened.{Opened, no_database, damaged, holding, opened}
 use Rattle.odb_transdb.specs.Answers.{KeepsOpened}
 use Rattle.odb_system.specs.Held.{side_of}
+use Rattle.odb_play.specs.Crash.{SurvivesCrashes, LosesNoCommit}
 use Rattle.odb_play.specs.Played.{IsPlayed}
 
 -- the bytes hold entries from the first on
@@ -44,12 +45,15 @@ abbrev pub HoldsFrom : Side → List Entry → Opened → Type 0
 HoldsFrom side entries what =
     (h : Header) × (what ≡ holding h entries) × (side ≡ side_of h) × (first_held h ≡ 1)
 
--- the script was played, from the machine of the entries that TRANSDB holds
+-- The script was played, from the machine of the entries that TRANSDB holds. That survives a crash
+-- at every moment, which loses no commit
 pub record IsPlayedFrom (status : Status) (old new : World) : Type 0 where
   pub side : Side
   pub entries : List Entry
   pub opens : IfSome (file_of 0 old) (λ f. HoldsFrom side entries (opened f.bytes))
   pub played : IsPlayed (first_machine side entries) status old new
+  pub crash : SurvivesCrashes (first_machine side entries) played.answers old new
+  pub commits : LosesNoCommit (first_machine side entries) played.answers old new
 
 -- the opening was refused: only TRANSDB may have changed, and it opens as before; nothing was taken
 -- or said

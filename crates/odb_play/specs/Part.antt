@@ -1,53 +1,67 @@
--- What a part of a script's play does to TRANSDB, and what it says.
-use Rattle.std.specs.Prelude.{◌≡◌, ℕ, ◌≤◌, List, ◌++◌, length, take}
-use Rattle.odb_device.specs.World.{World, IsObservable}
+-- What a part of a script's play does to the files, and what it says.
+use Rattle.std.specs.Prelude.{◌≡◌, ℕ, true, List, [], ◌∷◌, ◌++◌, Option}
+use Rattle.odb_device.specs.World.{Moment, World, present}
+use Rattle.odb_device.specs.Calls.{FileCountRose}
 use Rattle.odb_device.specs.Console.{Says}
-use Rattle.odb_device.specs.Moments.{EachMoment, EachCrashSince}
-use Rattle.odb_model.specs.declared.entry.Entry.{Entry}
-use Rattle.odb_model.specs.Machine.{Machine, history_or_more}
-use Rattle.odb_model.specs.Play.{Answer, RiseOnly, faults_told, machine_after, said_by}
-use Rattle.odb_model.specs.Acknowledged.{Acknowledges}
-use Rattle.odb_transdb.specs.declared.header.Header.{Header}
-use Rattle.odb_transdb.specs.Opened.{Holds}
-use Rattle.odb_play.specs.Outside.{TouchesOnly, RoseBy}
+use Rattle.odb_device.specs.Steps.{Steps}
+use Rattle.odb_kept.specs.Running.{KeptAlong, IsRunning}
+use Rattle.odb_model.specs.Machine.{Machine}
+use Rattle.odb_model.specs.Play.{Answer, machine_after, text_of_answer, said_by}
+use Rattle.odb_reply.specs.Telling.{TellsAlone}
+use Rattle.odb_system.specs.Kept.{IsKept, Rests, IsDoubtCaused}
+use Rattle.odb_play.specs.Outside.{TouchesOnly, Passed}
 
--- With these bytes said since the machine was m, this image of TRANSDB opens to a prefix of the
--- last machine's history and the entry in doubt behind it. The prefix has all of m's history, and
--- each commit that the bytes tell of
-pub record IsKeptFrom (h : Header) (m last : Machine) (said : List ℕ) (image : List ℕ) :
-    Type 0 where
-  pub count : ℕ
-  pub within : count ≤ length (history_or_more last)
-  pub holds : Holds h (take count (history_or_more last)) image
-  pub least : length m.history ≤ count
-  pub told : (k : ℕ) → Acknowledges said k → k ≤ count
+abbrev pub after_of : Answer → Machine
+after_of answer = answer.after
 
--- so at every moment from one world to another, with every image
-abbrev pub KeepsFrom : Header → Machine → Machine → World → World → Type 0
-KeepsFrom h m last old new =
-    EachMoment (EachCrashSince old (λ said images. IsKeptFrom h m last said (images 0))) old new
+-- A moment of a run of these answers from the machine `first` on, where `before` was said before
+-- it: with i replies wholly said the images of all files are kept by the machine after i answers or
+-- the one after i + 1, and, where no byte is said yet, perhaps by the one at entry
+abbrev pub Along : Machine → Machine → List Answer → Option (List ℕ) → Moment → Type 0
+Along = KeptAlong IsKept after_of text_of_answer
 
--- the history never gets shorter, and what may be on the disk besides it stays or grows
-pub record GoesOn (m last : Machine) : Type 0 where
-  pub history : length m.history ≤ length last.history
-  pub more : List Entry
-  pub longer : history_or_more last ≡ history_or_more m ++ more
+-- a file's count rose in the step where the answer has it so, and INDOUBT has its cause
+pub record IsCaused (m : Machine) (answer : Answer) (before after : World) : Type 0 where
+  pub rose : (file : ℕ) → answer.risen file ≡ true → FileCountRose file before after
+  pub doubt : IsDoubtCaused m answer.reply answer.after before after
 
--- A part of a play, in which these are the answers from machine m on. TRANSDB, the console and
--- counts change alone; a count rises in a step only where it rose in the part, and by as much as
--- the answers tell of its faults
-pub record IsPart (h : Header) (m : Machine) (answers : List Answer) (old new : World) :
-    Type 0 where
+-- From machine m on, the steps of the answers were taken one behind another, each between two
+-- worlds of its own, in which it has its causes
+abbrev pub Causes : Machine → List Answer → World → World → Type 0
+Causes m [] old new = Passed old new
+Causes m (answer ∷ answers) old new =
+    (before : World) × (after : World) × Passed old before × Passed before after
+    × IsCaused m answer before after × Causes answer.after answers after new
+
+-- a front of each answer's text tells of no other commit than the reply's own
+abbrev pub TellAlone : List Answer → Type 0
+TellAlone [] = Unit {0}
+TellAlone (answer ∷ answers) =
+    TellsAlone (text_of_answer answer) answer.reply × TellAlone answers
+
+-- a front of the texts of the first answers is said, and these tell of their own commits alone
+pub record IsHeard (answers : List Answer) (old new : World) : Type 0 where
+  pub told : List Answer
+  pub untold : List Answer
+  pub all : answers ≡ told ++ untold
+  pub alone : TellAlone told
+  pub front : List ℕ
+  pub rest : List ℕ
+  pub text : said_by told ≡ front ++ rest
+  pub says : Says front old new
+
+-- a part of a play, in which these are the answers from machine m on
+pub record IsPart (m : Machine) (answers : List Answer) (old new : World) : Type 0 where
   pub only : TouchesOnly 0 old new
-  pub risen : RiseOnly (RoseBy old new) answers
-  pub counted : (file : ℕ) → RoseBy old new file (faults_told file answers)
-  pub goes : GoesOn m (machine_after m answers)
-  pub kept : IsObservable 0 old → KeepsFrom h m (machine_after m answers) old new
+  pub causes : Causes m answers old new
+  pub heard : IsHeard answers old new
+  pub kept : Steps (Along m m answers (present old).said) old new
 
--- a part whose answers are all said, and tell only of commits that the history has
-pub record IsWhole (h : Header) (m : Machine) (answers : List Answer) (old new : World) :
-    Type 0 where
-  pub part : IsPart h m answers old new
-  pub says : Says (said_by answers) old new
-  pub tells : (k : ℕ) → Acknowledges (said_by answers) k
-      → k ≤ length (machine_after m answers).history
+-- a part whose answers are all said, and in the end the files rest
+pub record IsWhole (m : Machine) (answers : List Answer) (old new : World) : Type 0 where
+  pub only : TouchesOnly 0 old new
+  pub causes : Causes m answers old new
+  pub alone : TellAlone answers
+  pub running : IsRunning IsKept after_of text_of_answer m m answers (machine_after m answers)
+      old new
+  pub rests : Rests (machine_after m answers) (present new)

@@ -1,14 +1,14 @@
 //! The player answers the lines of a script as their bytes come.
 ghost use Rattle.std.specs.Prelude.{◌≡◌, ℕ, ◌+◌, ◌-◌, List, [], ◌∷◌, ◌++◌, take, length, position, ◌==◌, OnOk, OnErr, Err};
-ghost use Rattle.odb_device.specs.World.{file_of};
+ghost use Rattle.odb_device.specs.World.{file_of, present};
 ghost use Rattle.odb_device.specs.Console.{TakesNothing, SayCountRose};
 ghost use Rattle.odb_device.specs.Moments.{Runs};
 ghost use Rattle.odb_model.specs.Machine.{Machine};
 ghost use Rattle.odb_model.specs.Play.{Answer};
 ghost use Rattle.odb_model.specs.Script.{head_of, without_cr};
-ghost use Rattle.odb_transdb.specs.declared.header.Header.{Header};
 ghost use Rattle.odb_system.specs.Held.{StandsFor};
 ghost use Rattle.odb_system.specs.Durable.{IsDurable, HoldsThroughout};
+ghost use Rattle.odb_system.specs.Kept.{Rests};
 ghost use Rattle.odb_reply.specs.Unbroken.{HasNoLf};
 ghost use Rattle.odb_play.specs.LineFront.{read_of_ended, read_of_last};
 ghost use Rattle.odb_play.specs.Outside.{TouchesOnly};
@@ -108,12 +108,11 @@ fn head_of(event: &Event) -> Head
 /// The answer to a line: whom it names, and the reply.
 fn reply_to<H: Host>(system: &mut System, alloc: Global, host: &mut H, line: &[u8]) -> (Head, Reply)
     requires durable { IsDurable system.old (file_of 0 (H.world host.old)) }
-    ensures answer { (m : Machine) → StandsFor system.old m
+    ensures answer { (m : Machine) → StandsFor system.old m → Rests m (present (H.world host.old))
         → Replies line.now m result.0 result.1 system.new (H.world host.old) (H.world host.new) }
     ensures run { Runs 0 (HoldsThroughout system.old system.new)
         (H.world host.old) (H.world host.new) }
     ensures durable { IsDurable system.new (file_of 0 (H.world host.new)) }
-    ensures same { system.new.transdb.header ≡ system.old.transdb.header }
 {
     match event_of(alloc, line) {
         Ok(event) => (head_of(&event), system.step(alloc, host, &event)),
@@ -129,11 +128,9 @@ fn answer<H: Host>(
     line: &[u8],
 ) -> Result<(), Stop>
     requires durable { IsDurable system.old (file_of 0 (H.world host.old)) }
-    ensures answer { (m : Machine) → StandsFor system.old m
-        → LineEnds system.old.transdb.header line.now m result system.new
-        (H.world host.old) (H.world host.new) }
+    ensures answer { (m : Machine) → StandsFor system.old m → Rests m (present (H.world host.old))
+        → LineEnds line.now m result system.new (H.world host.old) (H.world host.new) }
     ensures durable { IsDurable system.new (file_of 0 (H.world host.new)) }
-    ensures same { system.new.transdb.header ≡ system.old.transdb.header }
     ensures only { TouchesOnly 0 (H.world host.old) (H.world host.new) }
     ensures input { TakesNothing (H.world host.old) (H.world host.new) }
     ensures cause { result ≡ Err Stop.WriteFault
@@ -153,9 +150,9 @@ impl Player {
     /// The line of which these bytes are the end: answers it.
     fn end_line<H: Host>(&mut self, alloc: Global, host: &mut H, part: &[u8]) -> Result<(), Stop>
         requires durable { IsDurable self.old.system (file_of 0 (H.world host.old)) }
-        ensures bytes { (h : Header) (m : Machine) (input : List ℕ) (answers : List Answer)
-            → IsAt h m self.old.system self.old.front.items input answers → HasNoLf part.now
-            → BytesEnd h m self.new.system self.new.front.items (input ++ (part.now ++ LF ∷ []))
+        ensures bytes { (m : Machine) (input : List ℕ) (answers : List Answer)
+            → IsAt m self.old.system self.old.front.items input answers (H.world host.old)
+            → HasNoLf part.now → BytesEnd m self.new.system self.new.front.items (input ++ (part.now ++ LF ∷ []))
             answers result (H.world host.old) (H.world host.new) }
         ensures durable { IsDurable self.new.system (file_of 0 (H.world host.new)) }
         ensures only { TouchesOnly 0 (H.world host.old) (H.world host.new) }
@@ -180,9 +177,9 @@ impl Player {
         piece: &[u8],
     ) -> Result<(), Stop>
         requires durable { IsDurable self.old.system (file_of 0 (H.world host.old)) }
-        ensures bytes { (h : Header) (m : Machine) (input : List ℕ) (answers : List Answer)
-            → IsAt h m self.old.system self.old.front.items input answers
-            → BytesEnd h m self.new.system self.new.front.items (input ++ piece.now) answers result
+        ensures bytes { (m : Machine) (input : List ℕ) (answers : List Answer)
+            → IsAt m self.old.system self.old.front.items input answers (H.world host.old)
+            → BytesEnd m self.new.system self.new.front.items (input ++ piece.now) answers result
             (H.world host.old) (H.world host.new) }
         ensures durable { IsDurable self.new.system (file_of 0 (H.world host.new)) }
         ensures only { TouchesOnly 0 (H.world host.old) (H.world host.new) }
@@ -204,9 +201,9 @@ impl Player {
     /// Answers a last line that no LF ended, if there is one. Nothing may follow.
     pub(crate) fn finish<H: Host>(&mut self, alloc: Global, host: &mut H) -> Result<(), Stop>
         requires durable { IsDurable self.old.system (file_of 0 (H.world host.old)) }
-        ensures bytes { (h : Header) (m : Machine) (input : List ℕ) (answers : List Answer)
-            → IsAt h m self.old.system self.old.front.items input answers
-            → FinishEnds h m input answers result (H.world host.old) (H.world host.new) }
+        ensures bytes { (m : Machine) (input : List ℕ) (answers : List Answer)
+            → IsAt m self.old.system self.old.front.items input answers (H.world host.old)
+            → FinishEnds m input answers result (H.world host.old) (H.world host.new) }
         ensures durable { IsDurable self.new.system (file_of 0 (H.world host.new)) }
         ensures only { TouchesOnly 0 (H.world host.old) (H.world host.new) }
         ensures input { TakesNothing (H.world host.old) (H.world host.new) }

@@ -3,16 +3,16 @@ ghost use Rattle.std.specs.Prelude.{◌≡◌, ◌≢◌, ℕ, ◌<◌, ◌≤�
 ghost use Rattle.odb_device.specs.Console.{Talks, SaysNothing, Takes, TakesNothing, EndsInput, SayCountRose, TakeCountRose};
 ghost use Rattle.odb_model.specs.Machine.{Machine};
 ghost use Rattle.odb_model.specs.Play.{Answer};
-ghost use Rattle.odb_device.specs.World.{file_of};
+ghost use Rattle.odb_device.specs.World.{file_of, present};
 ghost use Rattle.odb_device.specs.Calls.{FileCountRose};
 ghost use Rattle.odb_device.specs.Moments.{Runs};
-ghost use Rattle.odb_transdb.specs.declared.header.Header.{Header};
 ghost use Rattle.odb_transdb.specs.Opened.{opened};
 ghost use Rattle.odb_transdb.specs.Answers.{KeepsOpened};
 ghost use Rattle.odb_system.specs.Held.{StandsFor};
 ghost use Rattle.odb_system.specs.Durable.{IsDurable};
+ghost use Rattle.odb_system.specs.Kept.{Rests};
 ghost use Rattle.odb_play.specs.Outside.{TouchesOnly};
-ghost use Rattle.odb_play.specs.Played.{IsAt, IsPlayed, EndsWith};
+ghost use Rattle.odb_play.specs.Played.{IsAt, IsPlayedOn, EndsWith};
 ghost use Rattle.odb_play.specs.Started.{IsStarted, RefusesOpening};
 ghost use Rattle.odb_play.specs.Opening.{PlayOutcome, IsOpeningOf};
 
@@ -36,9 +36,10 @@ const MOST_INPUT: u64 = 4_294_967_296;
 /// a refusal nothing was taken or said. It takes the input in pieces of 64 KiB, and keeps of a line
 /// no more than a line can have that asks for a step.
 ///
-/// At each moment of it a crash leaves a TRANSDB that opens to the first entries of the history
-/// with the one in doubt, among them each commit that a whole line said by then tells of. This is
-/// promised of a file that is told and that opens so by each of its images at the call.
+/// At each moment of it, with i replies wholly said, a crash leaves files that are kept by the
+/// machine after i answers or after i + 1: a TRANSDB that opens to its history, or to it and the
+/// entry in doubt. This is promised of files that some machine keeps so at the call, and that are
+/// told.
 pub fn play<H: Host>(alloc: Global, host: &mut H) -> Status
     ensures played { PlayOutcome result (H.world host.old) (H.world host.new) }
     ensures opened { IfSome (file_of 0 (H.world host.old))
@@ -85,8 +86,9 @@ fn open_player<H: Host>(alloc: Global, host: &mut H) -> Result<(Player, Vec<u8>)
 fn play_on<H: Host>(alloc: Global, host: &mut H, player: &mut Player, piece: &mut [u8]) -> Status
     requires room { 0 < length piece.old }
     requires durable { IsDurable player.old.system (file_of 0 (H.world host.old)) }
-    ensures played { (m : Machine) → StandsFor player.old.system m → player.old.front.items ≡ []
-        → IsPlayed m result (H.world host.old) (H.world host.new) }
+    ensures played { (m : Machine) → StandsFor player.old.system m
+        → Rests m (present (H.world host.old)) → player.old.front.items ≡ []
+        → IsPlayedOn m result (H.world host.old) (H.world host.new) }
     ensures read_fault { result ≡ Status.ReadFault
         → TakeCountRose (H.world host.old) (H.world host.new) }
     ensures write_fault { result ≡ Status.WriteFault
@@ -134,9 +136,9 @@ fn take_some<H: Host>(host: &mut H, piece: &mut [u8], room: usize) -> Result<usi
 /// The input has ended: answers a last line, if there is one, and says how the script ended.
 fn end<H: Host>(alloc: Global, host: &mut H, player: &mut Player) -> Status
     requires durable { IsDurable player.old.system (file_of 0 (H.world host.old)) }
-    ensures finished { (h : Header) (m : Machine) (input : List ℕ) (answers : List Answer)
-        → IsAt h m player.old.system player.old.front.items input answers
-        → EndsWith h m input answers result (H.world host.old) (H.world host.new) }
+    ensures finished { (m : Machine) (input : List ℕ) (answers : List Answer)
+        → IsAt m player.old.system player.old.front.items input answers (H.world host.old)
+        → EndsWith m input answers result (H.world host.old) (H.world host.new) }
     ensures only { TouchesOnly 0 (H.world host.old) (H.world host.new) }
     ensures input { TakesNothing (H.world host.old) (H.world host.new) }
     ensures read_fault { result ≢ Status.ReadFault }

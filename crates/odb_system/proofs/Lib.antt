@@ -1,3 +1,4 @@
 mod Sealing
 mod Resting
 mod Simulates
+pub mod Keeping

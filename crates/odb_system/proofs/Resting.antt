@@ -86,7 +86,7 @@ executes_log held at st None reply after step = absurd step
 executes_log held at st (Some t) reply after step =
     log_as held after (with_open held at (Some (grown held st t))) step.1 (record { history = refl; transdb = refl; in_doubt = refl })
 
-holds_by : (d : Option Entry) (held : Held) (file : Option File) → held.in_doubt ≡ d → IsDurableBy d held file → HoldsThroughout held held file
+pub holds_by : (d : Option Entry) (held : Held) (file : Option File) → held.in_doubt ≡ d → IsDurableBy d held file → HoldsThroughout held held file
 holds_by None held None settled durable = tt
 holds_by None held (Some f) settled durable = λ image is. inl (subst (λ es. Holds held.transdb.header es image) durable.1 (durable.0.2 image is).holds)
 holds_by (Some e) held file settled durable = durable

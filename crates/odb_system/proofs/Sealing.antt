@@ -1,5 +1,5 @@
 -- What a record that is forced, or refused, leaves of a system and of its file.
-use Rattle.std.proofs.Common.{◌≡◌, ℕ, ◌+◌, ◌-◌, ◌≤◌, List, [], ◌∷◌, ◌++◌, length, drop, Option, Some, None, Ok, Err, refl, sym, ap, subst, ◌∙◌, inl, arith, length-append, add_comm}
+use Rattle.std.proofs.Common.{◌≡◌, false, ℕ, ◌+◌, ◌-◌, ◌≤◌, List, [], ◌∷◌, ◌++◌, length, drop, Option, Some, None, Ok, Err, refl, sym, ap, subst, ◌∙◌, inl, arith, length-append, add_comm}
 use Rattle.std.specs.Prelude.{◌⊎◌, slice_set, is_some, IfSome}
 use Rattle.std.specs.List.{All}
 use Rattle.std.proofs.lemmas.List.{drop-append-le, length-set}
@@ -22,9 +22,9 @@ use Rattle.odb_transdb.specs.declared.error.TransdbError.TheVariants.{Full, Faul
 use Rattle.odb_transdb.specs.Header.{side_size, side_start, first_held, active_first}
 use Rattle.odb_transdb.specs.Opened.{Holds, entries_in}
 use Rattle.odb_transdb.specs.Standing.{Db, IsPlaced, IsAdvanced, IsSettledIn, Stands, room_of}
-use Rattle.odb_transdb.specs.Answers.{IsForceAnswer, HoldsAll, HoldsAllOrMore}
+use Rattle.odb_transdb.specs.Answers.{IsForceAnswer, HoldsAll, HoldsAllOrMore, RoseAtGate}
 use Rattle.odb_system.specs.Held.{Open, Held, IsOpen, none_open, Begins, IsAsDoubted, IsHeld}
-use Rattle.odb_system.specs.Durable.{history_or_more_of, IsDurable, IsDurableBy, HoldsEither, HoldsThroughout}
+use Rattle.odb_system.specs.Durable.{history_or_more_of, IsDurable, IsDurableBy, HoldsEither, HoldsThroughout, DoubtedAtGate}
 use Rattle.odb_system.specs.Room.{HasRoomLeft}
 
 -- the room of a log is what the records of the history leave of the active side
@@ -209,4 +209,42 @@ held_again held new before after is settled placed kept = record {
   numbered = is.numbered;
   log = subst (IsAsDoubted new held.history) (sym settled) (begins_again held.transdb new held.history before after (begins_of held settled is) placed kept);
   each = is.each;
+}
+
+-- an entry in doubt, by what forcing its record answers
+entries_told : (db : Db) (h : List Entry) (file : Option File) (P : List Entry → Type 0) → IfSome file (λ f. entries_in (Some f) ≡ h) → (is_some file ≡ false → P h) → P (entries_in file) → P h
+entries_told db h None P same untold told = untold refl
+entries_told db h (Some f) P same untold told = subst P same told
+
+durable_entries : (doubt : Option Entry) (held : Held) (file : Option File) → doubt ≡ None → IsDurableBy doubt held file → IfSome file (λ f. entries_in (Some f) ≡ held.history)
+durable_entries None held file settled durable = durable.1
+durable_entries (Some e) held file settled durable = cc
+
+untold_holds : (db : Db) (h : List Entry) (o : Option File) → is_some o ≡ false → HoldsAll db h o
+untold_holds db h None none = tt
+untold_holds db h (Some f) none = cc
+
+gate_of_history : (held : Held) (payload : List ℕ) (old new : World) → IfSome (file_of 0 old) (λ f. entries_in (Some f) ≡ held.history)
+    → RoseAtGate held.transdb (entries_in (file_of 0 old)) payload old new → RoseAtGate held.transdb held.history payload old new
+gate_of_history held payload old new same rose =
+    entries_told held.transdb held.history (file_of 0 old) (λ h. RoseAtGate held.transdb h payload old new) same
+    (λ none. record {
+      mid = rose.mid;
+      before = record {
+        only = rose.before.only;
+        each = λ k from to. untold_holds held.transdb held.history ((rose.mid.moment k).files 0) (rose.before.only.told k from to ∙ none);
+      };
+      body = rose.body;
+      only = rose.only;
+      rose = rose.rose;
+    }) rose
+
+pub doubted_at_gate : (held after : Held) (e : Entry) (payload : List ℕ) (old new : World) → Begins held.transdb held.history → held.in_doubt ≡ None → IsDurable held (file_of 0 old) → after.in_doubt ≡ Some e
+    → payload ≡ entry_image e → RoseAtGate held.transdb (entries_in (file_of 0 old)) payload old new → DoubtedAtGate held after old new
+doubted_at_gate held after e payload old new begins settled durable doubt is rose = record {
+  begins = begins;
+  entry = e;
+  doubt = doubt;
+  rose = subst (λ (x : List ℕ). RoseAtGate held.transdb held.history x old new) is
+      (gate_of_history held payload old new (durable_entries held.in_doubt held (file_of 0 old) settled durable) rose);
 }

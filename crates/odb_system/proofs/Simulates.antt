@@ -1,5 +1,5 @@
 -- Each change of what a system holds is a step of the machine that it stands for.
-use Rattle.std.proofs.Common.{◌≡◌, ◌≢◌, ℕ, ◌+◌, ◌-◌, ◌<◌, ◌≤◌, Bool, true, false, ◌==◌, cond, List, [], ◌∷◌, ◌++◌, length, take, drop, replicate, refl, sym, ap, subst, ◌∙◌, Option, Some, None, arith, zero, suc, append_assoc, add_comm, inl, inr}
+use Rattle.std.proofs.Common.{◌≡◌, ◌≢◌, ℕ, ◌+◌, ◌-◌, ◌<◌, ◌≤◌, Bool, true, false, ◌==◌, cond, List, [], ◌∷◌, ◌++◌, length, take, replicate, refl, sym, ap, subst, ◌∙◌, Option, Some, None, arith, zero, suc, append_assoc, add_comm, inl, inr}
 use Rattle.std.specs.Prelude.{slice_get, slice_set, unwrap_or, option_map, MatchBool}
 use Rattle.std.proofs.lemmas.List.{take-append-le, append-nil, length-set}
 use Rattle.std.proofs.lemmas.Bool.{eqb-true}
@@ -19,13 +19,13 @@ use Rattle.odb_model.specs.Reads.{reads}
 use Rattle.odb_model.specs.Transaction.{Executed, table_keys, open_meaning, write_set_from, write_set_of, read_at, reads_of}
 use Rattle.odb_model.specs.Script.{IsSession}
 use Rattle.odb_model.specs.Machine.{Machine, Side, first_machine, with_session, with_entry, in_doubt_of, next_entry, room_left, room_of, executed_now, net_of, Starts, Executes, DecidesBy, Commits, Refuses, StatementStep, Step}
-use Rattle.odb_model.specs.Width.{records_width}
 use Rattle.odb_model.specs.Serial.{HasOpenReplies, SessionAnsweredFromSnapshots, AnsweredFromSnapshots}
 use Rattle.odb_model.proofs.Runs.{write_set_from-more, answered_first, answered_step, not_meant, is_meant, IsNumberedFrom-snoc}
 use Rattle.odb_device.specs.World.{World}
 use Rattle.odb_transdb.specs.Standing.{Db, room_of as room_in}
 use Rattle.odb_system.specs.Held.{Open, Held, none_open, session_at, with_open, meaning_in, grown, IsSealed, IsDoubted, HeldStarts, HeldExecutes, HeldDecidesBy, HeldCommits, HeldRuns, open_of, side_of, StandsFor, Follows}
-use Rattle.odb_system.specs.Durable.{Risen, FaultRose}
+use Rattle.odb_device.proofs.Talking.{rose_earlier}
+use Rattle.odb_system.specs.Durable.{Risen, FaultRose, CausedBy}
 use Rattle.odb_system.specs.Room.{AgreesOnRoom}
 
 slice_get-set_same : {A : Type 0} (xs : List A) (i : ℕ) (x : A) → i < length xs → slice_get (slice_set xs i x) i ≡ Some x
@@ -109,6 +109,12 @@ caused : (reply : Reply) (old new : World) → FaultRose reply old new → (file
 caused (Fault f) old new rose file risen = subst (Risen old new) (sym (eqb-true file 0 risen)) rose
 caused (InDoubt k) old new rose file risen = subst (Risen old new) (sym (eqb-true file 0 risen)) rose
 caused reply old new rose file risen = cc
+
+-- what is the cause of a reply raised the count
+pub rose_of_cause : (before : Held) (reply : Reply) (after : Held) (old new : World) → CausedBy before reply after old new → FaultRose reply old new
+rose_of_cause before (Fault f) after old new cause = cause
+rose_of_cause before (InDoubt k) after old new cause = rose_earlier (old.faults 0) (cause.rose.mid.faults 0) (new.faults 0) (cause.rose.before.only.faults 0) cause.rose.rose
+rose_of_cause before reply after old new cause = tt
 
 -- a step of the machine to one that the system stands for
 record Goes (m : Machine) (s : ℕ) (st : Statement) (reply : Reply) (held : Held) : Type 0 where

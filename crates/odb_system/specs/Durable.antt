@@ -9,7 +9,9 @@ use Rattle.odb_model.specs.declared.reply.Reply.TheVariants.{Fault, InDoubt}
 use Rattle.odb_model.specs.Machine.{with_doubt}
 use Rattle.odb_transdb.specs.Opened.{Holds, entries_in}
 use Rattle.odb_transdb.specs.Standing.{Stands}
-use Rattle.odb_system.specs.Held.{Held}
+use Rattle.odb_codec.specs.Image.{entry_image}
+use Rattle.odb_transdb.specs.Answers.{RoseAtGate}
+use Rattle.odb_system.specs.Held.{Held, Begins}
 
 -- the history, and the entry in doubt where there is one
 abbrev pub history_or_more_of : Held → List Entry
@@ -40,7 +42,22 @@ IsDurable held file = IsDurableBy held.in_doubt held file
 abbrev pub Risen : World → World → ℕ → Type 0
 Risen old new file = FileCountRose file old new
 
--- the replies that tell of a fault come only where the count of file 0 rose
+-- The entry that is in doubt after the step is the one whose record was being forced: the count
+-- rose from the gate's write on, when the whole record but its gate was on the disk
+pub record DoubtedAtGate (before after : Held) (old new : World) : Type 0 where
+  pub begins : Begins before.transdb before.history
+  pub entry : Entry
+  pub doubt : after.in_doubt ≡ Some entry
+  pub rose : RoseAtGate before.transdb before.history (entry_image entry) old new
+
+-- FAULT comes only where the count of file 0 rose in the step, and INDOUBT only where it rose from
+-- the gate's write on
+abbrev pub CausedBy : Held → Reply → Held → World → World → Type 0
+CausedBy before (Fault f) after old new = FileCountRose 0 old new
+CausedBy before (InDoubt k) after old new = DoubtedAtGate before after old new
+CausedBy before reply after old new = Unit {0}
+
+-- either comes only where the count of file 0 rose
 abbrev pub FaultRose : Reply → World → World → Type 0
 FaultRose (Fault f) old new = FileCountRose 0 old new
 FaultRose (InDoubt k) old new = FileCountRose 0 old new

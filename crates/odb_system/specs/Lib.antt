@@ -1,3 +1,4 @@
 pub mod Held
 pub mod Durable
 pub mod Room
+pub mod Kept

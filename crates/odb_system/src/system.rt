@@ -1,6 +1,6 @@
 //! The machine: a history with the log that has it, and the sessions; each statement is one step.
 ghost use Rattle.std.specs.Prelude.{◌≡◌, ◌<◌, replicate, None, IfOk, OnOk, OnErr, IsTrue};
-ghost use Rattle.odb_device.specs.World.{file_of};
+ghost use Rattle.odb_device.specs.World.{file_of, present};
 ghost use Rattle.odb_device.specs.Moments.{Runs};
 ghost use Rattle.odb_system.specs.Held.{none_open};
 ghost use Rattle.odb_plain.specs.Form.{statement_of};
@@ -52,7 +52,8 @@ impl System {
     ghost use Rattle.odb_model.specs.declared.event.Event.TheVariants.{Session};
     ghost use Rattle.odb_model.specs.Machine.{Machine, first_machine};
     ghost use Rattle.odb_system.specs.Held.{session_at, side_of, Begins, HeldStarts, HeldExecutes, HeldCommits, HeldSeals, HeldRuns, CanSeal, StandsFor, IsOfSession, Follows};
-    ghost use Rattle.odb_system.specs.Durable.{IsDurable, HoldsThroughout, Risen, FaultRose};
+    ghost use Rattle.odb_system.specs.Durable.{IsDurable, HoldsThroughout, Risen, CausedBy};
+    ghost use Rattle.odb_system.specs.Kept.{Rests, Stepped};
     ghost use Rattle.odb_system.specs.Room.{AgreesOnRoom};
 
     /// The machine that begins with these entries, all that the log holds; all sessions are idle.
@@ -82,8 +83,8 @@ impl System {
     pub fn step<H: Host>(&mut self, alloc: Global, host: &mut H, event: &Event) -> Reply
         requires session { IsOfSession event.now }
         requires durable { IsDurable self.old (file_of 0 (H.world host.old)) }
-        ensures step { (m : Machine) → StandsFor self.old m
-            → Follows (Risen (H.world host.old) (H.world host.new)) m event.now result self.new }
+        ensures step { (m : Machine) → StandsFor self.old m → Rests m (present (H.world host.old))
+            → Stepped m event.now result self.new (H.world host.old) (H.world host.new) }
         ensures run { Runs 0 (HoldsThroughout self.old self.new)
             (H.world host.old) (H.world host.new) }
         ensures durable { IsDurable self.new (file_of 0 (H.world host.new)) }
@@ -108,6 +109,7 @@ impl System {
         ensures step { (m : Machine) → StandsFor self.old m
             → Follows (Risen (H.world host.old) (H.world host.new)) m
             (Session session statement.now) result self.new }
+        ensures cause { CausedBy self.old result self.new (H.world host.old) (H.world host.new) }
         ensures run { Runs 0 (HoldsThroughout self.old self.new)
             (H.world host.old) (H.world host.new) }
         ensures durable { IsDurable self.new (file_of 0 (H.world host.new)) }
@@ -125,7 +127,7 @@ impl System {
         requires durable { IsDurable self.old (file_of 0 (H.world host.old)) }
         ensures step { HeldRuns self.old at (statement_of form) result self.new }
         ensures room { AgreesOnRoom result self.old }
-        ensures fault { FaultRose result (H.world host.old) (H.world host.new) }
+        ensures cause { CausedBy self.old result self.new (H.world host.old) (H.world host.new) }
         ensures run { Runs 0 (HoldsThroughout self.old self.new)
             (H.world host.old) (H.world host.new) }
         ensures durable { IsDurable self.new (file_of 0 (H.world host.new)) }
@@ -178,7 +180,7 @@ impl System {
         requires durable { IsDurable self.old (file_of 0 (H.world host.old)) }
         ensures step { HeldCommits self.old at (session_at self.old at) result self.new }
         ensures room { AgreesOnRoom result self.old }
-        ensures fault { FaultRose result (H.world host.old) (H.world host.new) }
+        ensures cause { CausedBy self.old result self.new (H.world host.old) (H.world host.new) }
         ensures run { Runs 0 (HoldsThroughout self.old self.new)
             (H.world host.old) (H.world host.new) }
         ensures durable { IsDurable self.new (file_of 0 (H.world host.new)) }
@@ -217,7 +219,7 @@ impl System {
         requires durable { IsDurable self.old (file_of 0 (H.world host.old)) }
         ensures step { HeldSeals self.old at writes result self.new }
         ensures room { AgreesOnRoom result self.old }
-        ensures fault { FaultRose result (H.world host.old) (H.world host.new) }
+        ensures cause { CausedBy self.old result self.new (H.world host.old) (H.world host.new) }
         ensures run { Runs 0 (HoldsThroughout self.old self.new)
             (H.world host.old) (H.world host.new) }
         ensures durable { IsDurable self.new (file_of 0 (H.world host.new)) }

@@ -8,7 +8,7 @@ ghost use Rattle.odb_pair.specs.Places.{opened as pair_opened};
 ghost use Rattle.odb_transdb.specs.Opened.{opened};
 ghost use Rattle.odb_play.specs.Opening.{PlayOutcome, IsOpeningOf};
 ghost use Rattle.odb_tool.specs.Words.{IsPlay, IsCreate, IsCommand};
-ghost use Rattle.odb_tool.specs.Created.{IsCreationOf, CreateOutcome};
+ghost use Rattle.odb_tool.specs.Created.{IsCreationOf, CreateOutcome, IsCreateStatus};
 
 use crate::create::create;
 use odb_device::Host;
@@ -53,16 +53,21 @@ use std::alloc::Global;
 ///   there is no such entry it isn't. A SELECT reads all of its range, rows that aren't there too.
 /// - **A full log is told exactly**: FULL comes where the entry's record needs more bytes than the
 ///   side of TRANSDB has left.
-/// - **A fault is counted.** FAULT 0 and INDOUBT come only where the count of faults of TRANSDB
-///   rose in that step, and are together at most as many as it rose by in the call. After INDOUBT k
-///   every COMMIT is answered HALTED k.
+/// - **A fault is counted.** FAULT 0 and INDOUBT are together at most as many as the count of faults
+///   of TRANSDB rose by in the call: each has a rise of its own, one behind another. INDOUBT comes
+///   only where the whole record but its gate was on the disk. After INDOUBT k every COMMIT is
+///   answered HALTED k.
 /// - Every other reply has its one cause, in the line or in the session's state.
 ///
-/// **No acknowledged commit is lost.** Where TRANSDB holds the same entries in every image of it as
-/// the call begins: at every moment of the call, whatever a crash then leaves of it opens to the
-/// first c entries of the run's history with the entry in doubt behind it, and c is at least each k
-/// of a line COMMITTED k said by then, so nothing that was acknowledged is gone and nothing stands
-/// in a wrong place.
+/// **What a crash leaves.** Let a machine keep every image of every file as the call begins: every
+/// image of TRANSDB opens to its history, or to it and one entry in doubt more, as an earlier play
+/// leaves them wherever it was stopped. Then the run begins with that history, or with it and that
+/// entry, by what was read; and at every moment of the call, with i replies wholly said, whatever a
+/// crash then leaves is kept by the machine after i answers or by the one after i + 1. Where no
+/// byte is said yet it may be as at entry. So **no commit is lost**: it opens to the first c
+/// entries of the run's history with the entry in doubt behind it, c is at least each k of a line
+/// COMMITTED k said by then and, from the first byte said on, the number of entries found, and
+/// nothing stands in a wrong place.
 ///
 /// Want of memory alone is free: the reply MEMORY may come in the place of any other to a statement
 /// and then changes nothing, and the status `NoMemory` may come in the place of any other. No other
@@ -86,8 +91,9 @@ use std::alloc::Global;
 /// # Where each word is defined
 ///
 /// `PlayOutcome`, in `odb_play/specs/Opening.antt`, says what a run starts from; `IsPlayed`, in
-/// `odb_play/specs/Played.antt`, ties the bytes of the host to `PlayEnds`; `SurvivesCrashes`, in
-/// `odb_play/specs/Crash.antt`, says what a crash leaves. What the bytes of TRANSDB hold stands in
+/// `odb_play/specs/Played.antt`, ties the bytes of the host to `PlayEnds`; `SurvivesCrashes` and
+/// `LosesNoCommit`, in `odb_play/specs/Crash.antt`, say what a crash leaves, by what a machine asks
+/// of an image: `IsKept`, in `odb_system/specs/Kept.antt`. What the bytes of TRANSDB hold stands in
 /// `odb_transdb/specs/Opened.antt`. The others stand in `odb_model/specs`: `PlayEnds`, a case for
 /// each status, in `Play.antt`; the lines of a script and what a line asks in `Script.antt`; the
 /// machine and its steps in `Machine.antt`; what a statement means in `Meaning.antt`; conflict in
@@ -111,6 +117,7 @@ pub fn run<H: Host>(alloc: Global, words: &[String], host: &mut H) -> Status
 
     ensures created { IsCreate (map string_bytes words.now)
         → CreateOutcome result (H.world host.old) (H.world host.new) }
+    ensures statuses { IsCreate (map string_bytes words.now) → IsCreateStatus result }
     ensures creation { IsCreate (map string_bytes words.now)
         → IfSome (file_of 0 (H.world host.old)) (λ f. IsCreationOf result (pair_opened f.bytes)) }
     ensures silent { IsCreate (map string_bytes words.now)

@@ -17,7 +17,7 @@ returns-in_err-end_line-clause-bytes g c =
     rw (p.1, p.2)
     (feeds_stop c.args.self.now.system c.args.self.now.front.items c.args.piece.now (g.H.Outside.world c.args.host.now) c.loop-end.self.system c.loop-end.self.front.items c.loop-end.rest.now (g.H.Outside.world c.loop-end.host) c.loop-end.invariant
     (Unit {0}) (Unit {0}) c.in-Some.end at c.in_err-end_line.field-0.0 c.end_line.new.self.system c.end_line.new.self.front.items (g.H.Outside.world c.end_line.new.host)
-    (λ h m input answers is. c.in_err-end_line.ensures.bytes h m input answers is at.before))
+    (λ m input answers is. c.in_err-end_line.ensures.bytes m input answers is at.before))
 
 pub returns-in_err-end_line-clause-only : goal.returns-in_err-end_line-clause-only
 returns-in_err-end_line-clause-only g c =
@@ -29,7 +29,7 @@ loop-end-preserved g c =
     let next : IsFeeding c.args.self.now.system c.args.self.now.front.items c.args.piece.now (g.H.Outside.world c.args.host.now) c.end_line.new.self.system c.end_line.new.self.front.items (drop (c.in-Some.end + 1) c.loop-end.rest.now) (g.H.Outside.world c.end_line.new.host) =
     feeds_line c.args.self.now.system c.args.self.now.front.items c.args.piece.now (g.H.Outside.world c.args.host.now) c.loop-end.self.system c.loop-end.self.front.items c.loop-end.rest.now (g.H.Outside.world c.loop-end.host) c.loop-end.invariant
     c.in-Some.end at c.end_line.new.self.system c.end_line.new.self.front.items (g.H.Outside.world c.end_line.new.host)
-    (λ h m input answers is. c.in_ok-end_line.ensures.bytes h m input answers is at.before) c.end_line.ensures.only c.end_line.ensures.durable c.end_line.ensures.input in
+    (λ m input answers is. c.in_ok-end_line.ensures.bytes m input answers is at.before) c.end_line.ensures.only c.end_line.ensures.durable c.end_line.ensures.input in
     subst (λ (rest : List ℕ). IsFeeding c.args.self.now.system c.args.self.now.front.items c.args.piece.now (g.H.Outside.world c.args.host.now) c.end_line.new.self.system c.end_line.new.self.front.items rest (g.H.Outside.world c.end_line.new.host))
     (sym (rest_of (c.in-Some.end + 1) c.loop-end.rest.now)) next
 
@@ -39,7 +39,7 @@ returns-in_default-extend_front-clause-bytes g c =
     c.loop-end.self.front.items
 
 pub returns-clause-bytes : goal.returns-clause-bytes
-returns-clause-bytes g c = λ h m input answers is.
-    subst (λ (front : List ℕ). BytesEnd {T = Unit {0}} h m c.loop-end.self.system front (input ++ c.args.piece.now) answers (Ok (tt {0})) (g.H.Outside.world c.args.host.now) (g.H.Outside.world c.loop-end.host)) (sym c.in-Ok.ensures.ok)
+returns-clause-bytes g c = λ m input answers is.
+    subst (λ (front : List ℕ). BytesEnd {T = Unit {0}} m c.loop-end.self.system front (input ++ c.args.piece.now) answers (Ok (tt {0})) (g.H.Outside.world c.args.host.now) (g.H.Outside.world c.loop-end.host)) (sym c.in-Ok.ensures.ok)
     (feeds_kept c.args.self.now.system c.args.self.now.front.items c.args.piece.now (g.H.Outside.world c.args.host.now) c.loop-end.self.system c.loop-end.self.front.items c.loop-end.rest.now (g.H.Outside.world c.loop-end.host) c.loop-end.invariant
-    (no_lf c.loop-end.rest.now (sym c.in_default.ensures)) h m input answers is)
+    (no_lf c.loop-end.rest.now (sym c.in_default.ensures)) m input answers is)

@@ -15,10 +15,10 @@ use Rattle.odb_transdb.specs.Opened.{entries_in}
 use Rattle.odb_transdb.specs.Standing.{room_of}
 use Rattle.odb_transdb.specs.Answers.{IsForceAnswer, HoldsAll, HoldsAllOrMore}
 use Rattle.odb_system.specs.Held.{Held, IsHeld, Begins, IsSealed, IsDoubted, IsAsBefore, need_of, next_of}
-use Rattle.odb_system.specs.Durable.{history_or_more_of, IsDurable, HoldsThroughout}
+use Rattle.odb_system.specs.Durable.{history_or_more_of, IsDurable, HoldsThroughout, DoubtedAtGate}
 use Rattle.odb_system.specs.Room.{HasRoomLeft}
 use Rattle.odb_codec.proofs.Lengths.{length-entry_image}
-use Rattle.odb_system.proofs.Sealing.{begins_of, room_agrees, image_reads, fault_before, holds_more, holds_same, durable_next, durable_again, durable_either, held_next, held_doubted}
+use Rattle.odb_system.proofs.Sealing.{begins_of, room_agrees, image_reads, holds_more, holds_same, durable_next, durable_again, durable_either, held_next, held_doubted, doubted_at_gate}
 use Rattle.odb_system.proofs.system.System.seal.Goals as goal
 use Rattle.odb_system.proofs.system.System.seal.Goals.{After-as_slice-2}
 use Rattle.odb_system.proofs.system.System.seal.Given as given
@@ -137,6 +137,16 @@ returns-in-InDoubt-clause-step g c =
     } in
     subst (λ (h : Held). (need_of h c.args.at c.args.writes ≤ room_of h.transdb) × (c.in-InDoubt.number ≡ length h.history + 1) × IsDoubted h c.args.at c.args.writes after) c.self.view_is
     (omega (arith, told.0, width g b), told.1 ∙ sym (begins g b).next, doubted)
+
+pub returns-in-InDoubt-clause-cause : goal.returns-in-InDoubt-clause-cause
+returns-in-InDoubt-clause-cause g c =
+    let b = (goal.at.returns-in-InDoubt-clause-cause g c).After-as_slice-2 in
+    let w : World = g.H.Outside.world c.args.host.now in
+    let now : World = g.H.Outside.world c.force.new.store in
+    let after : Held = record { history = c.reserve_place.new.history.items; sessions = slice_set c.self.inside.sessions.items c.args.at None; transdb = c.force.new.self; in_doubt = Some (entry g b) } in
+    subst (λ (h : Held). DoubtedAtGate h after w now) c.self.view_is
+    (doubted_at_gate (held g b) after (entry g b) c.as_slice-2.result.now w now (begins g b) (settled g b) (durable g b) refl (payload_is g b)
+    (c.force.ensures.doubt c.in-InDoubt.number (c.in-Err.is ∙ ap Err c.in-InDoubt.is)))
 
 pub returns-in-InDoubt-clause-run : goal.returns-in-InDoubt-clause-run
 returns-in-InDoubt-clause-run g c =

@@ -1,0 +1,66 @@
+//! The laws of records and histories, each the contract of a function with nothing to do.
+ghost use Rattle.std.specs.Prelude.{◌≡◌, ℕ, ◌+◌, ◌-◌, ◌≤◌, ◌<◌, Option, Some, None};
+ghost use Rattle.odb_slots.specs.Between.{Between};
+ghost use Rattle.odb_bank.specs.History.{Key, Row, History, IsLast, GoesOn};
+ghost use Rattle.odb_bank.specs.Records.{View, Record, IsWithin, record_of, bank_map, IsRecord};
+ghost use Rattle.odb_bank.specs.Stands.{Stands, IsCompleteTo, HasGreatest};
+ghost use Rattle.odb_bank.specs.Changes.{AddsRun, ClosesStale};
+ghost use Rattle.odb_bank.specs.Replayed.{state, changed_by};
+ghost use Rattle.odb_bank.specs.Run.{run_record, IsRunRecord};
+
+/// What a turn does keeps a file standing for the history, in each image.
+pub fn keeps_standing()
+    // the same open records, whatever stands behind closed gates
+    ensures bodies { (h : History) (a : ℕ) (old new : View)
+        → ((n : ℕ) → new n ≡ old n) → Stands h a old → Stands h a new }
+    // any of the gates of a run
+    ensures gates { (h : History) (a reached mark : ℕ) (less more view : View)
+        → AddsRun h a reached less more → mark ≤ reached → Between less more view
+        → Stands h mark less → Stands h mark view }
+    // all of them
+    ensures reached { (h : History) (a reached : ℕ) (less more : View)
+        → AddsRun h a reached less more → a ≤ reached → Stands h a less → Stands h reached more }
+    // any of the stale slots closed
+    ensures stale { (h : History) (mark limit : ℕ) (less more view : View)
+        → IsWithin limit more → ClosesStale mark more less → Between less more view
+        → Stands h mark more → Stands h mark view }
+    // entries behind those of the history
+    ensures longer { (h longer : History) (a : ℕ) (view : View)
+        → GoesOn h longer → a ≤ h.count → Stands h a view → Stands longer a view }
+{}
+
+/// A file that stands has of each key what the history says.
+pub fn reads_history()
+    // the record of a key is the one of greatest stamp, of least slot among equal stamps
+    ensures record { (limit : ℕ) (view : View) (key : Key)
+        → IsRecord limit view key (record_of limit view key) }
+    // complete, in the words of the greatest stamp
+    ensures greatest { (h : History) (a limit : ℕ) (view : View)
+        → IsWithin limit view → Stands h a view
+        → (key : Key) (j : ℕ) → IsLast h a key j → HasGreatest h a view key j }
+    ensures back { (h : History) (a : ℕ) (view : View)
+        → ((key : Key) (j : ℕ) → IsLast h a key j → HasGreatest h a view key j)
+        → IsCompleteTo h a view }
+    // where no entry above the mark writes the key, the map has what the last entry wrote
+    ensures row { (h : History) (a limit : ℕ) (view : View)
+        → IsWithin limit view → Stands h a view
+        → (key : Key) (j : ℕ) (row : Option Row) → a ≤ h.count → IsLast h h.count key j → j ≤ a
+        → h.write j key ≡ Some row → bank_map limit view key ≡ row }
+    ensures never { (h : History) (a limit : ℕ) (view : View)
+        → IsWithin limit view → Stands h a view
+        → (key : Key) → ((k : ℕ) → 1 ≤ k → k ≤ h.count → h.write k key ≡ None)
+        → bank_map limit view key ≡ None }
+    // changed by the entries above its mark, it has the state of the whole history
+    ensures opens { (h : History) (a limit : ℕ) (view : View) (key : Key)
+        → IsWithin limit view → a ≤ h.count → Stands h a view
+        → changed_by h a (h.count - a) key (bank_map limit view key) ≡ state h h.count key }
+{}
+
+/// The last write of each key among the entries above a number is the record that a turn adds.
+pub fn gathers_run()
+    ensures record { (h : History) (a more : ℕ) (key : Key)
+        → IsRunRecord h a (a + more) key (run_record h a more key) }
+    ensures all { (h : History) (a more : ℕ) (key : Key) (j : ℕ)
+        → IsLast h (a + more) key j → a < j
+        → (r : Record) × (run_record h a more key ≡ Some r) × (r.key ≡ key) × (r.stamp ≡ j) }
+{}

@@ -1,0 +1,11 @@
+//! When the records of a databank file stand for a history.
+//!
+//! There are only the definitions and their laws so far, each law the contract of a function with
+//! nothing to do.
+#![tactic(auto)]
+
+mod known;
+mod laws;
+
+pub use known::{keeps_known, stands_by_what_is_known};
+pub use laws::{gathers_run, keeps_standing, reads_history};

@@ -1,0 +1,4 @@
+pub mod Opened
+pub mod Standing
+pub mod Answers
+pub mod Laws

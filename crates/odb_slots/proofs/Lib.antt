@@ -1,0 +1,5 @@
+pub mod Gating
+pub mod Imaging
+pub mod Filling
+pub mod Finding
+pub mod Places

@@ -1,0 +1,66 @@
+-- What a machine asks of the files while a crash may come, and what a step leaves of them.
+use Rattle.std.specs.Prelude.{◌≡◌, ◌⊎◌, ℕ, List, None, Some}
+use Rattle.odb_device.specs.World.{Moment, World, present}
+use Rattle.odb_device.specs.Images.{EachImage}
+use Rattle.odb_device.specs.Steps.{Steps, IsQuiet}
+use Rattle.odb_kept.specs.Kept.{KeptBy, KeptByEither}
+use Rattle.odb_model.specs.declared.entry.Entry.{Entry}
+use Rattle.odb_model.specs.declared.event.Event.{Event}
+use Rattle.odb_model.specs.declared.reply.Reply.{Reply}
+use Rattle.odb_model.specs.declared.reply.Reply.TheVariants.{InDoubt}
+use Rattle.odb_model.specs.Machine.{Machine, history_or_more}
+use Rattle.odb_codec.specs.Image.{entry_image}
+use Rattle.odb_transdb.specs.declared.header.Header.{Header}
+use Rattle.odb_transdb.specs.Header.{first_held}
+use Rattle.odb_transdb.specs.Opened.{Holds}
+use Rattle.odb_transdb.specs.Standing.{Db}
+use Rattle.odb_transdb.specs.Answers.{RoseAtGate}
+use Rattle.odb_system.specs.Held.{Held, Begins, Follows, side_of}
+use Rattle.odb_system.specs.Durable.{Risen}
+
+-- the image of TRANSDB opens under a header of the machine's side, from number 1 on, to these
+-- entries
+pub record OpensBy (m : Machine) (entries : List Entry) (image : List ℕ) : Type 0 where
+  pub header : Header
+  pub side : m.side ≡ side_of header
+  pub first : first_held header ≡ 1
+  pub holds : Holds header entries image
+
+-- What the machine asks of an image of the file with this number. Of TRANSDB, file 0, it asks that
+-- it opens to the history, or to it with the entry in doubt; of any other file it asks nothing
+pub record IsKept (m : Machine) (file : ℕ) (image : List ℕ) : Type 0 where
+  pub log : file ≡ 0 → OpensBy m m.history image ⊎ OpensBy m (history_or_more m) image
+
+-- The files are at rest, as a step finds and leaves them: the machine keeps each, and where no
+-- entry is in doubt each image of TRANSDB has just the history
+pub record Rests (m : Machine) (moment : Moment) : Type 0 where
+  pub keeps : KeptBy (IsKept m) moment
+  pub exact : m.in_doubt ≡ None → EachImage (OpensBy m m.history) (moment.files 0)
+
+-- The entry in doubt after the step is the one that was being forced, behind the history in the log.
+-- The count of TRANSDB rose when the whole record but its gate was on the disk: until then each
+-- image held just the history, and from then on no other byte than the gate may have changed
+pub record RoseFromGate (m after : Machine) (old new : World) : Type 0 where
+  pub log : Db
+  pub side : m.side ≡ side_of log.header
+  pub begins : Begins log m.history
+  pub entry : Entry
+  pub doubt : after.in_doubt ≡ Some entry
+  pub rose : RoseAtGate log m.history (entry_image entry) old new
+
+-- so where the reply is INDOUBT
+abbrev pub IsDoubtCaused : Machine → Reply → Machine → World → World → Type 0
+IsDoubtCaused m (InDoubt k) after old new = RoseFromGate m after old new
+IsDoubtCaused m reply after old new = Unit {0}
+
+-- From the machine m the event got this reply by a step, in which a file's count rose only where
+-- the step tells so, and the system stands for the machine after it. At each moment of it, whatever
+-- a crash leaves is all kept by m or all by the machine after it; nothing is said or taken; and
+-- when it ends the files rest
+pub record Stepped
+    (m : Machine) (event : Event) (reply : Reply) (held : Held) (old new : World) : Type 0 where
+  pub follows : Follows (Risen old new) m event reply held
+  pub doubt : IsDoubtCaused m reply follows.after old new
+  pub keeps : Steps (KeptByEither (IsKept m) (IsKept follows.after)) old new
+  pub quiet : IsQuiet old new
+  pub rests : Rests follows.after (present new)
