@@ -5,3 +5,8 @@ pub mod Opening
 pub mod Gathering
 pub mod KnownSlots
 pub mod Standing
+pub mod Staleness
+pub mod Replaying
+pub mod Spelling
+pub mod Framing
+pub mod HeadFields

@@ -1,20 +1,32 @@
 -- What each step of a turn leaves of `AllStand`.
-use Rattle.std.proofs.Common.{◌≡◌, ◌⊎◌, inl, inr, ℕ, ◌≤◌, List, Some, None, sym, ◌∙◌, ap, subst, refl}
+use Rattle.std.proofs.Common.{◌≡◌, ◌⊎◌, inl, inr, ℕ, ◌≤◌, List, Option, Some, None, sym, ◌∙◌, ap, subst, refl}
 use Rattle.odb_bank.specs.History.{History}
 use Rattle.odb_bank.specs.Records.{Record, View, IsWithin}
 use Rattle.odb_bank.specs.Stands.{Stands}
 use Rattle.odb_bank.specs.Changes.{IsStale, AddsRun}
 use Rattle.odb_bank.proofs.Steps.{stands_same, stands_opening, stands_opened, stands_closing}
 use Rattle.odb_slots.specs.Between.{NeedsItsBody, Between}
-use Rattle.odb_slots.specs.Views.{Spelling, view_by}
-use Rattle.odb_bank.specs.Known.{Known, free, filled, held, either, sure, perhaps, sure_of, perhaps_of, behind_gate, IsFileOf, Become}
+use Rattle.odb_slots.specs.Slots.{gate_at}
+use Rattle.odb_slots.specs.Views.{Spelling, spelled, view_by, IsBad}
+use Rattle.odb_bank.specs.Known.{Known, free, filled, held, either, Fits, sure, perhaps, sure_of, perhaps_of, behind_gate, IsFileOf, Become}
 use Rattle.odb_bank.proofs.KnownSlots.{known_between}
-use Rattle.odb_bank.specs.Turns.{AllStand, DoubtsStale, IsQuiet, HoldsRun}
+use Rattle.odb_bank.specs.Turns.{AllStand, DoubtsStale, IsQuietBeside, Waits, HoldsRun}
+use Rattle.odb_bank.specs.Files.{StandsIn}
 
 -- an image of a file of which all this is known
 pub stands_known : (spell : Spelling Record) → NeedsItsBody spell → (h : History) (a limit : ℕ) (known : ℕ → Known) (bytes : List ℕ) → AllStand h a known → IsFileOf spell limit known bytes
-    → Stands h a (view_by spell limit bytes)
-stands_known spell own h a limit known bytes all is = all (view_by spell limit bytes) (known_between spell own limit known bytes is)
+    → StandsIn spell h a limit bytes
+stands_known spell own h a limit known bytes all is = record {
+  long = is.long;
+  spells = λ n low bad. never (known n) (gate_at n bytes) (spelled spell n bytes) (is.fits n low) bad;
+  stands = all (view_by spell limit bytes) (known_between spell own limit known bytes is);
+}
+  where
+    never : (k : Known) (gate : ℕ) (it : Option Record) → Fits k gate it → IsBad gate it → ⊥
+    never free gate it shut bad = shut bad.0
+    never (filled r) gate it is bad = is.0 bad.0
+    never (held r) gate it is bad = let some = is.1 in let none = bad.1 in cc (some, none)
+    never (either r) gate it is bad = let none = bad.1 in cc (is, none)
 
 -- closing: with all that may be open it stands, and each slot in doubt is stale
 pub all_closing : (h : History) (mark limit : ℕ) (known : ℕ → Known) → IsWithin limit (perhaps_of known) → DoubtsStale mark known → Stands h mark (perhaps_of known) → AllStand h mark known
@@ -32,21 +44,26 @@ all_same h a known later lows highs all view between = all view (λ n. elim (bet
 
 -- opening
 module _ (h : History) (a reached : ℕ) (S : ℕ → Type 0) (known later : ℕ → Known) (to : Record → Known) (shows : (r : Record) → perhaps (to r) ≡ Some r) (hides : (r : Record) → (sure (to r) ≡ None) ⊎ (sure (to r) ≡ Some r))
-    (quiet : IsQuiet known) (run : HoldsRun h a reached S known) (become : Become S to known later) where
-  -- the record of a slot of S
-  its : (n : ℕ) (r s : Record) → known n ≡ filled r → behind_gate (known n) ≡ Some s → r ≡ s
-  its n r s e is = cc (ap behind_gate e, is)
+    (quiet : IsQuietBeside S known) (run : HoldsRun h a reached S known) (become : Become S to known later) where
+  -- the record of a slot of S, which isn't open for sure
+  its : (n : ℕ) (r s : Record) → Waits (known n) r → behind_gate (known n) ≡ Some s → r ≡ s
+  its n r s (inl e) is = cc (ap behind_gate e, is)
+  its n r s (inr e) is = cc (ap behind_gate e, is)
+
+  closed : (n : ℕ) (r : Record) → Waits (known n) r → sure (known n) ≡ None
+  closed n r (inl e) = ap sure e
+  closed n r (inr e) = ap sure e
 
   adds : AddsRun h a reached (sure_of known) (perhaps_of later)
   adds = record {
     within = run.within;
     each = λ n. elim (become n) [
-      | inl other ↦ inl (ap perhaps other.1 ∙ quiet n)
+      | inl other ↦ inl (ap perhaps other.1 ∙ quiet n other.0)
       | inr one ↦
           let r = run.each n one.0 in
           let t = one.1 in
           let same : r.0 ≡ t.0 = its n r.0 t.0 r.1 t.1 in
-          inr (record { was_closed = ap sure r.1; added = r.0; now = ap perhaps t.2 ∙ shows t.0 ∙ ap Some (sym same); of_run = r.2 })
+          inr (record { was_closed = closed n r.0 r.1; added = r.0; now = ap perhaps t.2 ∙ shows t.0 ∙ ap Some (sym same); of_run = r.2 })
     ];
     all = λ key j last above.
         let r = run.all key j last above in
@@ -64,7 +81,7 @@ module _ (h : History) (a reached : ℕ) (S : ℕ → Type 0) (known later : ℕ
       | inr one ↦
           let r = run.each n one.0 in
           let t = one.1 in
-          elim (hides t.0) [ inl none ↦ inl (e ∙ ap sure t.2 ∙ none ∙ sym (ap sure r.1)) | inr some ↦ inr (e ∙ ap sure t.2 ∙ some ∙ sym (ap perhaps t.2 ∙ shows t.0)) ]
+          elim (hides t.0) [ inl none ↦ inl (e ∙ ap sure t.2 ∙ none ∙ sym (closed n r.0 r.1)) | inr some ↦ inr (e ∙ ap sure t.2 ∙ some ∙ sym (ap perhaps t.2 ∙ shows t.0)) ]
     ]
   ]
 

@@ -6,3 +6,7 @@ pub mod Replayed
 pub mod Run
 pub mod Known
 pub mod Turns
+pub mod Spelled
+pub mod Fields
+pub mod Files
+pub mod Owned

@@ -6,11 +6,13 @@ ghost use Rattle.odb_slots.specs.Views.{Spelling, view_by};
 ghost use Rattle.odb_slots.specs.Between.{IsLong, NeedsItsBody, Between};
 ghost use Rattle.odb_slots.specs.Sets.{GatesOf, BodiesOf, IsOneOf, HaveGates, HasSlot, HasItems};
 ghost use Rattle.odb_slots.specs.declared.item.SlotItem.{SlotItem};
-ghost use Rattle.odb_bank.specs.History.{History};
-ghost use Rattle.odb_bank.specs.Records.{Record, View, IsWithin};
-ghost use Rattle.odb_bank.specs.Stands.{Stands};
-ghost use Rattle.odb_bank.specs.Known.{Known, free, held, either, sure_of, perhaps_of, IsFileOf, Become, AreFilled};
-ghost use Rattle.odb_bank.specs.Turns.{AllStand, DoubtsStale, IsQuiet, HoldsRun};
+ghost use Rattle.odb_bank.specs.History.{History, Key};
+ghost use Rattle.odb_bank.specs.Records.{Record, View, IsWithin, bank_map};
+ghost use Rattle.odb_bank.specs.Stands.{Stands, IsTruthful};
+ghost use Rattle.odb_bank.specs.Changes.{IsStale};
+ghost use Rattle.odb_bank.specs.Files.{StandsIn};
+ghost use Rattle.odb_bank.specs.Known.{Known, free, held, either, perhaps, sure_of, perhaps_of, IsFileOf, Become, AreFilled};
+ghost use Rattle.odb_bank.specs.Turns.{AllStand, DoubtsStale, IsStaleSlot, IsQuiet, IsQuietBeside, HoldsRun};
 
 /// What is known of each slot stays known in each image, and says which records may be open.
 pub fn keeps_known()
@@ -55,7 +57,7 @@ pub fn stands_by_what_is_known()
     ensures image { (spell : Spelling Record) → NeedsItsBody spell
         → (h : History) (a limit : ℕ) (known : ℕ → Known) (bytes : List ℕ)
         → AllStand h a known → IsFileOf spell limit known bytes
-        → Stands h a (view_by spell limit bytes) }
+        → StandsIn spell h a limit bytes }
     // stale slots are closed, or may be
     ensures closing { (h : History) (mark limit : ℕ) (known : ℕ → Known)
         → IsWithin limit (perhaps_of known) → DoubtsStale mark known
@@ -65,16 +67,36 @@ pub fn stands_by_what_is_known()
         → ((n : ℕ) → sure_of later n ≡ sure_of known n)
         → ((n : ℕ) → perhaps_of later n ≡ perhaps_of known n)
         → AllStand h a known → AllStand h a later }
-    // their gates are opened, or may be
+    // their gates are opened, or may be, also where an earlier opening broke off
     ensures opening { (h : History) (a reached mark : ℕ) (slots : List ℕ)
         (known later : ℕ → Known)
-        → IsQuiet known → HoldsRun h a reached (IsOneOf slots) known
+        → IsQuietBeside (IsOneOf slots) known → HoldsRun h a reached (IsOneOf slots) known
         → Become (IsOneOf slots) either known later
         → mark ≤ reached → Stands h mark (sure_of known) → AllStand h mark later }
     // and all are open
     ensures opened { (h : History) (a reached : ℕ) (slots : List ℕ) (known later : ℕ → Known)
-        → IsQuiet known → HoldsRun h a reached (IsOneOf slots) known
+        → IsQuietBeside (IsOneOf slots) known → HoldsRun h a reached (IsOneOf slots) known
         → Become (IsOneOf slots) held known later
         → a ≤ reached → IsQuiet later → Stands h a (sure_of known)
         → AllStand h a later × AllStand h reached later }
+{}
+
+/// What closing stale slots leaves, of which any may be open still.
+pub fn closes_stale()
+    // a slot is stale by what is open on the disk where it is by all that may be open
+    ensures durable { (h : History) (mark limit : ℕ) (known : ℕ → Known)
+        → IsWithin limit (perhaps_of known) → DoubtsStale mark known
+        → IsTruthful h (perhaps_of known)
+        → (n : ℕ) (r : Record) → perhaps (known n) ≡ Some r
+        → IsStale mark (perhaps_of known) n r → IsStaleSlot mark known n }
+    // until the closed gates are on the disk, just stale slots are in doubt
+    ensures doubts { (mark : ℕ) (slots : List ℕ) (known later : ℕ → Known)
+        → DoubtsStale mark known → ((n : ℕ) → IsOneOf slots n → IsStaleSlot mark known n)
+        → Become (IsOneOf slots) either known later → DoubtsStale mark later }
+    // whichever of them are open, a truthful file has the same rows
+    ensures rows { (h : History) (mark limit : ℕ) (known : ℕ → Known)
+        → IsWithin limit (perhaps_of known) → DoubtsStale mark known
+        → IsTruthful h (perhaps_of known)
+        → (view : View) → Between (sure_of known) (perhaps_of known) view
+        → (key : Key) → bank_map limit view key ≡ bank_map limit (sure_of known) key }
 {}

@@ -1,12 +1,16 @@
 //! The laws of records and histories, each the contract of a function with nothing to do.
-ghost use Rattle.std.specs.Prelude.{◌≡◌, ℕ, ◌+◌, ◌-◌, ◌≤◌, ◌<◌, Option, Some, None};
+ghost use Rattle.std.specs.Prelude.{◌≡◌, ℕ, ◌+◌, ◌-◌, ◌≤◌, ◌<◌, List, [], ◌∷◌, ◌++◌, length, Option, Some, None};
+ghost use Rattle.std.specs.FinMap.{get};
+ghost use Rattle.odb_model.specs.declared.entry.Entry.{Entry};
+ghost use Rattle.odb_model.specs.State.{replay};
 ghost use Rattle.odb_slots.specs.Between.{Between};
-ghost use Rattle.odb_bank.specs.History.{Key, Row, History, IsLast, GoesOn};
+ghost use Rattle.odb_bank.specs.History.{Key, Row, History, IsLast, GoesOn, history_of};
 ghost use Rattle.odb_bank.specs.Records.{View, Record, IsWithin, record_of, bank_map, IsRecord};
 ghost use Rattle.odb_bank.specs.Stands.{Stands, IsCompleteTo, HasGreatest};
 ghost use Rattle.odb_bank.specs.Changes.{AddsRun, ClosesStale};
 ghost use Rattle.odb_bank.specs.Replayed.{state, changed_by};
 ghost use Rattle.odb_bank.specs.Run.{run_record, IsRunRecord};
+ghost use Rattle.odb_bank.specs.Owned.{AreInOrder, HasItsTable};
 
 /// What a turn does keeps a file standing for the history, in each image.
 pub fn keeps_standing()
@@ -63,4 +67,15 @@ pub fn gathers_run()
     ensures all { (h : History) (a more : ℕ) (key : Key) (j : ℕ)
         → IsLast h (a + more) key j → a < j
         → (r : Record) × (run_record h a more key ≡ Some r) × (r.key ≡ key) × (r.stamp ≡ j) }
+{}
+
+/// The history of a list of entries, as a bank sees it, says of a key of the bank what replaying
+/// the entries gives.
+pub fn replays_history()
+    // where each entry's writes ascend, and all writes to the key's table are in the bank
+    ensures state { (bank : ℕ) (h : List Entry) (key : Key) → AreInOrder h
+        → HasItsTable bank key.table h
+        → state (history_of bank h) (length h) key ≡ get (replay h) key }
+    ensures longer { (bank : ℕ) (h : List Entry) (e : Entry)
+        → GoesOn (history_of bank h) (history_of bank (h ++ e ∷ [])) }
 {}

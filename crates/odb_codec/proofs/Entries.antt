@@ -57,9 +57,11 @@ entry_takes number bytes entry fits e =
     let storable : IsStorable made = record {
       by = (by.1, by.2);
       some = omega (arith, writes.all, count.1);
-      few = omega (arith, writes.all, count.2);
-      ascending = sorted_from_ascend None w.0.0 writes.ascend;
-      narrow = All-from_recursion (λ w. width_of_write w ≤ 1006) w.0.0 writes.narrow;
+      writes = record {
+        few = omega (arith, writes.all, count.2);
+        ascending = sorted_from_ascend None w.0.0 writes.ascend;
+        narrow = All-from_recursion (λ w. width_of_write w ≤ 1006) w.0.0 writes.narrow;
+      };
     } in
     subst (λ (y : Entry). (y.number ≡ number) × HasImage y × (bytes ≡ entry_image y)) g.1
     (refl, record { storable = storable; typed = All-from_recursion IsTypedWrite w.0.0 writes.typed }, whole)
@@ -77,8 +79,8 @@ entry_again number e has =
     ap (read_entry number) regrouped
     ∙ rw (
       between_again 1 64 w8 (2 ^ 8) wide8 e.by (count ++ (images ++ [])) (omega arith) has.storable.by.0 has.storable.by.1,
-      between_again 1 4096 w16 (2 ^ 16) wide16 (length e.writes) (images ++ []) (omega arith) has.storable.some has.storable.few,
-      writes_again None e.writes [] (recursion_from_All IsTypedWrite e.writes has.typed) (recursion_from_All (λ w. width_of_write w ≤ 1006) e.writes has.storable.narrow) (ascend_from_sorted e.writes has.storable.ascending),
+      between_again 1 4096 w16 (2 ^ 16) wide16 (length e.writes) (images ++ []) (omega arith) has.storable.some has.storable.writes.few,
+      writes_again None e.writes [] (recursion_from_All IsTypedWrite e.writes has.typed) (recursion_from_All (λ w. width_of_write w ≤ 1006) e.writes has.storable.writes.narrow) (ascend_from_sorted e.writes has.storable.writes.ascending),
     ) refl
 
 pub key_found : (bytes : List ℕ) (key : List Value) → IsBytes bytes → read_key bytes ≡ Ok key → KeyHasImage key × (bytes ≡ values_image key)

@@ -3,7 +3,6 @@
 use Rattle.std.specs.Prelude.{◌≡◌, ℕ, ◌^◌, ◌<◌, ◌≤◌, List, [], ◌∷◌, ◌++◌, length, Option, Some, None, IfSome, FitsSigned}
 use Rattle.std.specs.Int.{w16, w32, w64, to_be_bytes, cast_unsigned}
 use Rattle.std.specs.List.{All, flat_map}
-use Rattle.std.specs.List.Sorted.{IsStrictlySortedBy}
 use Rattle.odb_values.specs.declared.value.Value.{Value}
 use Rattle.odb_values.specs.declared.value.Value.TheVariants.{Null, Int, Text}
 use Rattle.odb_values.specs.Text.{IsText}
@@ -11,9 +10,7 @@ use Rattle.odb_values.specs.Key.{IsKey, width_of_all}
 use Rattle.odb_model.specs.declared.write.Write.{Write}
 use Rattle.odb_model.specs.declared.entry.Entry.{Entry}
 use Rattle.odb_model.specs.Script.{IsSession}
-use Rattle.odb_model.specs.State.{table_key_cmp}
-use Rattle.odb_model.specs.Transaction.{table_keys}
-use Rattle.odb_model.specs.Width.{width_of_write}
+use Rattle.odb_model.specs.Storable.{IsStorableList}
 
 -- a length in 2 bytes, and that many bytes
 unfoldable pub counted : List ℕ → List ℕ
@@ -76,15 +73,12 @@ pub record RowHasImage (values : List Value) : Type 0 where
   pub narrow : width_of_all values ≤ 1006
   pub typed : AreTyped values
 
--- What an entry has to meet beside its types: a session from 1 to 64; 1 to 4,096 writes, each to a
--- place, a table and a key of it, above those of the writes before it; and each with a key and a
--- row of at most 1,006 bytes together
+-- What an entry has to meet beside its types: a session from 1 to 64, and at least one write, in a
+-- list that can be stored
 pub record IsStorable (e : Entry) : Type 0 where
   pub by : IsSession e.by
   pub some : 0 < length e.writes
-  pub few : length e.writes ≤ 4096
-  pub ascending : IsStrictlySortedBy table_key_cmp (table_keys e.writes)
-  pub narrow : All (λ w. width_of_write w ≤ 1006) e.writes
+  pub writes : IsStorableList e.writes
 
 -- the entry by another number
 abbrev pub numbered : ℕ → Entry → Entry

@@ -9,3 +9,4 @@ pub mod Stretches
 pub mod TornSets
 pub mod Frames
 pub mod Writing
+pub mod Untold

@@ -1,5 +1,5 @@
 -- What one call of a store leaves.
-use Rattle.std.proofs.Common.{◌≡◌, inr, ℕ, List, length, Option, Some, Result, Ok, Err, sym, ◌∙◌, ap, subst}
+use Rattle.std.proofs.Common.{◌≡◌, ◌⊎◌, inl, inr, ℕ, List, length, Option, Some, Result, Ok, Err, sym, ◌∙◌, ap, subst}
 use Rattle.std.specs.Prelude.{OnOk, OnErr, option_map, IfSome}
 use Rattle.odb_device.specs.World.{File, World, file_of}
 use Rattle.odb_device.specs.Images.{ReadsImage, Torn, TornFrom, torn}
@@ -13,6 +13,11 @@ tears_same file at n f old new was is = inr (
   is ∙ sym (ap (option_map (torn at n f.bytes)) was),
   subst (λ (o : Option File). IfSome o (λ b. Torn at n b.bytes f.bytes)) (sym was) (torn_same at n f.bytes),
 )
+
+-- what a sync made of the file, whatever it answers
+pub sync_either : {E : Type 0} → (file : ℕ) (old new : World) (result : Result (Unit {0}) E) → OnOk result (Keeps file old new) → OnErr result (Unsettles file old new) → Keeps file old new ⊎ Unsettles file old new
+sync_either file old new (Ok u) keeps unsettles = inl keeps
+sync_either file old new (Err e) keeps unsettles = inr unsettles
 
 -- what a write leaves, whatever it answers
 module _ {E : Type 0} (file : ℕ) (old new : World) (result : Result (Unit {0}) E) where

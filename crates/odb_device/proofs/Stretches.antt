@@ -1,15 +1,15 @@
 -- Stretches of calls: none, one, and one behind another; and what they are of one file, or of the
 -- console.
-use Rattle.std.proofs.Common.{◌≡◌, inl, inr, ℕ, List, Option, sym, ◌∙◌, ap, subst, refl, arith}
+use Rattle.std.proofs.Common.{◌≡◌, inl, inr, ℕ, ◌≤◌, List, Option, sym, ◌∙◌, ap, subst, refl, arith}
 use Rattle.std.specs.Prelude.{is_some}
 use Rattle.std.proofs.lemmas.Bool.{cases_lt, cases_eq}
-use Rattle.odb_device.specs.World.{File, Moment, Talk, World, present, file_of}
+use Rattle.odb_device.specs.World.{File, Moment, Talk, World, present, file_of, faults_of}
 use Rattle.odb_device.specs.Counts.{Grows}
 use Rattle.odb_device.specs.Calls.{CallsOn, Stays}
 use Rattle.odb_device.specs.Console.{Talks}
 use Rattle.odb_device.specs.Moments.{Runs}
 use Rattle.odb_device.specs.Steps.{Steps, Files, IsAsIn, OnlyThis, IsQuiet}
-use Rattle.odb_device.proofs.Time.{call_cases, changes_call}
+use Rattle.odb_device.proofs.Time.{call_cases, none_falls, call_falls, then_falls, ends_count, changes_call}
 use Rattle.odb_device.proofs.Talking.{grows_same, grows_then, between_same}
 
 -- no call
@@ -22,7 +22,7 @@ steps_none Q w here = record {
       let same : k ≡ w.time = omega arith in
       let is : (w.moment k).said ≡ (present w).said = ap (λ (m : ℕ). (w.moment m).said) same in
       (grows_same _ _ is, grows_same _ _ (sym is));
-  faults = λ g. omega arith;
+  faults = none_falls w;
   take_faults = omega arith;
   say_faults = omega arith;
   each = λ k from to. let same : w.time ≡ k = omega arith in subst (λ (m : ℕ). Q (w.moment m)) same here;
@@ -43,7 +43,7 @@ steps_call Q file old new call before after = record {
   said = λ k from to.
       let is : (new.moment k).said ≡ (present old).said = (changes_call file old new call).said k from to in
       (grows_same _ _ is, grows_same _ _ (call.said ∙ sym is));
-  faults = call.faults;
+  faults = call_falls old new call.past call.during call.faults;
   take_faults = omega (arith, ap (λ (t : Talk). t.take_faults) call.talk);
   say_faults = omega (arith, ap (λ (t : Talk). t.say_faults) call.talk);
   each = λ k from to. elim (call_cases old new call.past call.during k from to) [
@@ -73,7 +73,7 @@ steps_then Q old mid new a b = record {
           subst (λ (m : Option (List ℕ)). Grows m (present new).said) (sym is) (grows_then (mid.moment k).said (present mid).said (present new).said s.1 last),
         )
   ];
-  faults = λ g. omega (arith, a.faults g, b.faults g);
+  faults = then_falls old mid new b.past a.faults b.faults;
   take_faults = omega (arith, a.take_faults, b.take_faults);
   say_faults = omega (arith, a.say_faults, b.say_faults);
   each = λ k from to. elim (cases_lt mid.time k) [
@@ -116,6 +116,10 @@ steps_end Q old new steps = steps.each new.time steps.later (omega arith)
 
 pub steps_told : (Q : Moment → Type 0) (old new : World) → Steps Q old new → (g : ℕ) → is_some (file_of g new) ≡ is_some (file_of g old)
 steps_told Q old new steps g = steps.told new.time g steps.later (omega arith)
+
+-- no count falls from the one end to the other
+pub steps_count : (Q : Moment → Type 0) (old new : World) → Steps Q old new → (g : ℕ) → faults_of g old ≤ faults_of g new
+steps_count Q old new steps = ends_count old new steps.later steps.past steps.faults
 
 -- a call that only reads a file changes none, whichever is asked about
 pub steps_read : (file : ℕ) (old new : World) → CallsOn file old new → Stays file old new → Steps (Files (IsAsIn old)) old new
@@ -181,20 +185,23 @@ steps_of_talks old new talks = record {
   past = talks.past;
   told = λ k g from to. ap is_some (talks.files k g from to);
   said = talks.said;
-  faults = λ g. omega (arith, talks.faults g);
+  faults = λ j k g from then to. omega (arith, talks.faults j from (omega arith) g, talks.faults k (omega arith) to g);
   take_faults = talks.take_faults;
   say_faults = talks.say_faults;
   each = λ k from to g. talks.files k g from to;
 }
 
 -- and back, where no file's count rose
-pub talks_of_steps : (old new : World) → Steps (Files (IsAsIn old)) old new → ((g : ℕ) → new.faults g ≡ old.faults g) → Talks old new
+pub talks_of_steps : (old new : World) → Steps (Files (IsAsIn old)) old new → ((g : ℕ) → faults_of g new ≡ faults_of g old) → Talks old new
 talks_of_steps old new steps faults = record {
   later = steps.later;
   past = steps.past;
   files = λ k g from to. steps.each k from to g;
   said = steps.said;
-  faults = faults;
+  faults = λ k from to g.
+      let before = steps.faults old.time k g (omega arith) from to in
+      let behind = steps.faults k new.time g from to (omega arith) in
+      omega (arith, before, behind, faults g, ap (λ (m : Moment). m.faults g) (steps.past old.time (omega arith)));
   take_faults = steps.take_faults;
   say_faults = steps.say_faults;
 }

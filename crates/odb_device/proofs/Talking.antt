@@ -4,7 +4,7 @@ use Rattle.std.specs.Prelude.{option_map}
 use Rattle.std.proofs.lemmas.Bool.{cases_lt}
 use Rattle.std.proofs.lemmas.List.{append-nil, append_cancel_left, take-append-drop, take-append-le, take_all}
 use Rattle.std.proofs.Math.Seq.{take-add, take-append_seam, take-append-add}
-use Rattle.odb_device.specs.World.{World, Moment, present, file_of}
+use Rattle.odb_device.specs.World.{World, Moment, present, file_of, faults_of}
 use Rattle.odb_device.specs.Images.{part}
 use Rattle.odb_device.specs.Counts.{Rose, Adds, Grows}
 use Rattle.odb_device.specs.Console.{Talks, Says, SaysNothing, TakesNothing, AddsFront, SaysOnly, BreaksOff}
@@ -83,7 +83,7 @@ talks_none w = record {
       let same : k ≡ w.time = omega arith in
       let is : (w.moment k).said ≡ (present w).said = ap (λ (m : ℕ). (w.moment m).said) same in
       (grows_same _ _ is, grows_same _ _ (sym is));
-  faults = λ g. refl;
+  faults = λ k from to g. let same : k ≡ w.time = omega arith in ap (λ (m : ℕ). (w.moment m).faults g) same;
   take_faults = omega arith;
   say_faults = omega arith;
 }
@@ -110,14 +110,17 @@ talks_then old mid new a b = record {
           subst (λ (m : Option (List ℕ)). Grows m (present new).said) (sym is) (grows_then (mid.moment k).said (present mid).said (present new).said s.1 last),
         )
   ];
-  faults = λ g. b.faults g ∙ a.faults g;
+  faults = λ k from to g. elim (cases_lt mid.time k) [
+    | inl after ↦ b.faults k (omega arith) to g ∙ a.faults mid.time a.later (omega arith) g
+    | inr before ↦ ap (λ (m : Moment). m.faults g) (b.past k before) ∙ a.faults k from before g
+  ];
   take_faults = omega (arith, a.take_faults, b.take_faults);
   say_faults = omega (arith, a.say_faults, b.say_faults);
 }
 
 -- what a host shows whose moments come one for a call
 pub talks_at_once : (old new : World) → old.time ≤ new.time → ((k : ℕ) → k ≤ old.time → new.moment k ≡ old.moment k) → ((k : ℕ) → old.time < k → k ≤ new.time → new.moment k ≡ present new)
-    → ((g : ℕ) → file_of g new ≡ file_of g old) → Grows (present old).said (present new).said → ((g : ℕ) → new.faults g ≡ old.faults g)
+    → ((g : ℕ) → file_of g new ≡ file_of g old) → Grows (present old).said (present new).said → ((g : ℕ) → faults_of g new ≡ faults_of g old)
     → old.talk.take_faults ≤ new.talk.take_faults → old.talk.say_faults ≤ new.talk.say_faults → Talks old new
 talks_at_once old new later past during files said faults take_faults say_faults = record {
   later = later;
@@ -135,7 +138,10 @@ talks_at_once old new later past during files said faults take_faults say_faults
         let is : (new.moment k).said ≡ (present old).said = ap (λ (m : Moment). m.said) (past k before) ∙ ap (λ (m : ℕ). (old.moment m).said) same in
         (grows_same _ _ is, subst (λ (m : Option (List ℕ)). Grows m (present new).said) (sym is) said)
   ];
-  faults = faults;
+  faults = λ k from to g. elim (cases_lt old.time k) [
+    | inl after ↦ ap (λ (m : Moment). m.faults g) (during k after to) ∙ faults g
+    | inr before ↦ let same : k ≡ old.time = omega arith in ap (λ (m : Moment). m.faults g) (past k before) ∙ ap (λ (m : ℕ). (old.moment m).faults g) same
+  ];
   take_faults = take_faults;
   say_faults = say_faults;
 }

@@ -1,12 +1,13 @@
 -- What one call of a store does.
 use Rattle.std.specs.Prelude.{◌≡◌, ◌≢◌, ◌⊎◌, ℕ, ◌-◌, ◌<◌, ◌≤◌, min, List, length, take, Option, Result, OnErr, option_map, is_some, IfSome}
-use Rattle.odb_device.specs.World.{File, World, present, file_of}
+use Rattle.odb_device.specs.World.{File, World, present, file_of, faults_of}
 use Rattle.odb_device.specs.Images.{Torn, part, written, torn, kept, reading}
 use Rattle.odb_device.specs.Counts.{Rose}
 
 -- One call on a file: only this file and counts of faults may change, and each moment of the call
--- is the one before it or the one after it. A crash in its midst is no further case: a write cut
--- off leaves an image of the file after it, and a sync cut off one from before.
+-- is the one before it or the one after it, whose counts have its faults. A crash in its midst is
+-- no further case: a write cut off leaves an image of the file after it, and a sync cut off one
+-- from before; and a crash leaves no count.
 pub record CallsOn (file : ℕ) (old new : World) : Type 0 where
   pub later : old.time ≤ new.time
   pub past : (k : ℕ) → k ≤ old.time → new.moment k ≡ old.moment k
@@ -15,11 +16,11 @@ pub record CallsOn (file : ℕ) (old new : World) : Type 0 where
   pub told : is_some (file_of file new) ≡ is_some (file_of file old)
   pub said : (present new).said ≡ (present old).said
   pub talk : new.talk ≡ old.talk
-  pub faults : (g : ℕ) → old.faults g ≤ new.faults g
+  pub faults : (g : ℕ) → faults_of g old ≤ faults_of g new
 
 -- the file's count rose
 abbrev pub FileCountRose : ℕ → World → World → Type 0
-FileCountRose file old new = Rose (old.faults file) (new.faults file)
+FileCountRose file old new = Rose (faults_of file old) (faults_of file new)
 
 -- `Failed` comes only where the file's count rose
 abbrev pub HasCause : {T E : Type 0} → ℕ → World → World → Result T E → Type 0
@@ -55,6 +56,27 @@ Unsettles file old new =
 abbrev pub Puts : ℕ → ℕ → List ℕ → World → World → Type 0
 Puts file at bytes old new =
     file_of file new ≡ option_map (λ f. kept (written at bytes f)) (file_of file old)
+
+-- just one call: a write of these bytes that failed, in which the file's count rose. Where it
+-- changed nothing, it can't be told from another call that failed
+pub record FailsToWrite (file at : ℕ) (bytes : List ℕ) (old new : World) : Type 0 where
+  pub call : CallsOn file old new
+  pub torn : Tears file at (length bytes) old new
+  pub rose : FileCountRose file old new
+
+-- just two calls: these bytes are written, and then the file is synced, or that failed
+pub record WritesThenSyncs (file at : ℕ) (bytes : List ℕ) (old new : World) : Type 0 where
+  pub mid : World
+  pub write : CallsOn file old mid
+  pub written : Writes file at bytes old mid
+  pub sync : CallsOn file mid new
+  pub settled : Keeps file mid new ⊎ Unsettles file mid new
+
+-- a write of these bytes and a sync behind it, with no call between or beside them, and none behind
+-- one that failed
+abbrev pub IsOnePut : ℕ → ℕ → List ℕ → World → World → Type 0
+IsOnePut file at bytes old new =
+    FailsToWrite file at bytes old new ⊎ WritesThenSyncs file at bytes old new
 
 -- the length of a told file
 abbrev pub HasLength : Option File → ℕ → Type 0

@@ -1,18 +1,18 @@
 -- What calls of a console do.
 use Rattle.std.specs.Prelude.{◌≡◌, ℕ, ◌<◌, ◌≤◌, List, length, take, Option}
-use Rattle.odb_device.specs.World.{World, present, file_of}
+use Rattle.odb_device.specs.World.{World, present, file_of, faults_of}
 use Rattle.odb_device.specs.Counts.{Rose, Adds, LiesBetween, Ends}
 use Rattle.odb_device.specs.Moments.{EachMoment}
 
 -- From old to new only the console changes, in one call or in several. At each moment of it the
--- files are as before, and what is said by then lies between what was said before and what is said
--- now: a crash may come while a piece is being said.
+-- files and their counts are as before, and what is said by then lies between what was said before
+-- and what is said now: a crash may come while a piece is being said.
 pub record Talks (old new : World) : Type 0 where
   pub later : old.time ≤ new.time
   pub past : (k : ℕ) → k ≤ old.time → new.moment k ≡ old.moment k
   pub files : (k g : ℕ) → old.time ≤ k → k ≤ new.time → (new.moment k).files g ≡ file_of g old
   pub said : EachMoment (λ m. LiesBetween (present old).said m.said (present new).said) old new
-  pub faults : (g : ℕ) → new.faults g ≡ old.faults g
+  pub faults : EachMoment (λ m. (g : ℕ) → m.faults g ≡ faults_of g old) old new
   pub take_faults : old.talk.take_faults ≤ new.talk.take_faults
   pub say_faults : old.talk.say_faults ≤ new.talk.say_faults
 

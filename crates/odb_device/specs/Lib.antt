@@ -12,3 +12,4 @@ pub mod TornSets
 pub mod Writing
 pub mod Frames
 pub mod Told
+pub mod Untold

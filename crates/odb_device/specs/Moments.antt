@@ -7,6 +7,11 @@ use Rattle.odb_device.specs.Images.{IsImageOf, TornFrom}
 abbrev pub EachMoment : (Moment → Type 0) → World → World → Type 0
 EachMoment Q old new = (k : ℕ) → old.time ≤ k → k ≤ new.time → Q (new.moment k)
 
+-- from each moment to each later one no file's count of faults falls
+abbrev pub NoCountFalls : World → World → Type 0
+NoCountFalls old new = (j k g : ℕ) → old.time ≤ j → j ≤ k → k ≤ new.time
+    → (new.moment j).faults g ≤ (new.moment k).faults g
+
 -- from old to new only this file and counts of faults change, and nothing is said or taken
 pub record ChangesOnly (file : ℕ) (old new : World) : Type 0 where
   pub later : old.time ≤ new.time
@@ -16,7 +21,7 @@ pub record ChangesOnly (file : ℕ) (old new : World) : Type 0 where
   pub told : EachMoment (λ m. is_some (m.files file) ≡ is_some (file_of file old)) old new
   pub said : EachMoment (λ m. m.said ≡ (present old).said) old new
   pub talk : new.talk ≡ old.talk
-  pub faults : (g : ℕ) → old.faults g ≤ new.faults g
+  pub faults : NoCountFalls old new
 
 -- at each moment from old to new the file has P
 abbrev pub Throughout : ℕ → (Option File → Type 0) → World → World → Type 0

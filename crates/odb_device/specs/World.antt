@@ -13,11 +13,12 @@ pub record File : Type 0 where
 abbrev pub empty_file : File
 empty_file = record { bytes = []; synced = []; ranges = [] }
 
--- the files that are told, each as it was at one moment, and the bytes said by then, where they are
--- told
+-- what there is at one moment: the files that are told, the bytes said by then, where they are
+-- told, and each file's count of faults by then
 pub record Moment : Type 0 where
   pub files : ℕ → Option File
   pub said : Option (List ℕ)
+  pub faults : ℕ → ℕ
 
 -- the console: the bytes taken, where they are told, whether 0 was answered to `take`, and the
 -- counts of faults
@@ -27,11 +28,10 @@ pub record Talk : Type 0 where
   pub take_faults : ℕ
   pub say_faults : ℕ
 
--- the moments from 0 to the present one, the count of faults of each file, and the console
+-- the moments from 0 to the present one, and the console
 pub record World : Type 0 where
   pub time : ℕ
   pub moment : ℕ → Moment
-  pub faults : ℕ → ℕ
   pub talk : Talk
 
 -- The present is the moment `time`. So what is said of each moment since some time counts now too,
@@ -42,6 +42,10 @@ present w = w.moment w.time
 -- the file as it is now, where it is told
 abbrev pub file_of : ℕ → World → Option File
 file_of file w = (present w).files file
+
+-- the file's count of faults now
+abbrev pub faults_of : ℕ → World → ℕ
+faults_of file w = (present w).faults file
 
 -- the store tells the file
 abbrev pub IsObservable : ℕ → World → Type 0

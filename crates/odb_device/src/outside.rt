@@ -102,6 +102,6 @@ pub trait Console: Outside {
         ensures cause { OnErr result (SayCountRose (Self.world self.old) (Self.world self.new)) };
 }
 
-/// Files and a console. A moment of a host is the pair of the bytes said so far and the images of
-/// its files.
+/// Files and a console. A moment of a host is the bytes said so far, the images of its files, and
+/// their counts of faults.
 pub trait Host: Store + Console {}

@@ -3,7 +3,7 @@
 use crate::error::StepError;
 use crate::log::UsableLog;
 use crate::untold::Untold;
-use crate::words::number;
+use crate::words::{fewer, number, short, short_number};
 use odb_pair::Pair;
 use odb_rowfile::split_word;
 use std::alloc::{AllocError, Global};
@@ -64,20 +64,25 @@ impl Bench {
     /// A line about the numbers of calls.
     fn count_calls(&mut self, alloc: Global, word: &str, rest: &str) -> Result<(), StepError> {
         match word {
-            "fail" => {
-                let call = self.call_number(rest)?;
-                Ok(self.store.fail(alloc, call)?)
-            }
+            "fail" => self.fail(alloc, rest),
             "mark" => self.mark(alloc, rest),
-            "calls" => {
-                let wanted = self.call_number(rest)?;
-                let calls = self.store.calls();
-                let wanted = format!(in alloc; "{wanted}")?;
-                let got = format!(in alloc; "{calls}")?;
-                self.compare(alloc, wanted.as_str(), got.as_str())
-            }
+            "calls" => self.compare_calls(alloc, rest),
             _ => Err(StepError::Unreadable),
         }
+    }
+
+    /// `fail C`
+    fn fail(&mut self, alloc: Global, rest: &str) -> Result<(), StepError> {
+        let call = self.call_number(rest)?;
+        Ok(self.store.fail(alloc, call)?)
+    }
+
+    /// `calls C`
+    fn compare_calls(&mut self, alloc: Global, rest: &str) -> Result<(), StepError> {
+        let wanted = self.call_number(rest)?;
+        let wanted = format!(in alloc; "{wanted}")?;
+        let calls = self.store.calls();
+        self.compare_number(alloc, wanted.as_str(), u64::from(calls))
     }
 
     /// Gives the number of calls so far a name.
@@ -85,25 +90,23 @@ impl Bench {
         if name.is_empty() {
             return Err(StepError::Unreadable);
         }
-        let mark = Mark {
-            name: String::from_str(alloc, name)?,
-            calls: self.store.calls(),
-        };
-        self.marks.push(mark).map_err(AllocError::from)?;
+        let calls = self.store.calls();
+        let name = String::from_str(alloc, name)?;
+        self.marks
+            .push(Mark { name, calls })
+            .map_err(AllocError::from)?;
         Ok(())
     }
 
     /// The number of calls that a text names.
     pub(crate) fn call_number(&self, text: &str) -> Result<u32, StepError> {
         if let Some((name, more)) = text.split_once('+') {
-            let calls = u64::from(self.named_calls(name)?).saturating_add(number(more)?);
-            return u32::try_from(calls).map_err(|_| StepError::Unreadable);
+            let calls = self.named_calls(name)?;
+            return short(u64::from(calls).saturating_add(number(more)?));
         }
         if let Some((name, less)) = text.split_once('-') {
-            let calls = u64::from(self.named_calls(name)?).checked_sub(number(less)?);
-            return u32::try_from(calls.ok_or(StepError::Unreadable)?).map_err(
-                |_| StepError::Unreadable,
-            );
+            let calls = self.named_calls(name)?;
+            return fewer(calls, number(less)?);
         }
         self.named_calls(text)
     }
@@ -118,7 +121,7 @@ impl Bench {
                 return Ok(mark.calls);
             }
         }
-        u32::try_from(number(name)?).map_err(|_| StepError::Unreadable)
+        short_number(name)
     }
 
     /// Compares what was found with what the line says.
@@ -129,10 +132,7 @@ impl Bench {
         got: &str,
     ) -> Result<(), StepError> {
         if wanted != got {
-            return Err(StepError::Differs {
-                wanted: String::from_str(alloc, wanted)?,
-                got: String::from_str(alloc, got)?,
-            });
+            return Err(differs(alloc, wanted, got)?);
         }
         self.checks = self.checks.saturating_add(1);
         Ok(())
@@ -148,4 +148,10 @@ impl Bench {
         let got = format!(in alloc; "{got}")?;
         self.compare(alloc, wanted, got.as_str())
     }
+}
+
+fn differs(alloc: Global, wanted: &str, got: &str) -> Result<StepError, AllocError> {
+    let wanted = String::from_str(alloc, wanted)?;
+    let got = String::from_str(alloc, got)?;
+    Ok(StepError::Differs { wanted, got })
 }

@@ -52,22 +52,44 @@ impl Bench {
         wanted: &str,
     ) -> Result<(), StepError> {
         for pick in picks {
-            let Some(mut left) = self.store.crash(alloc, calls, *pick)? else {
-                return Err(StepError::Unreadable);
-            };
-            let got = found_after(alloc, &mut left, found, &self.payloads)?;
+            let got = self.found_behind(alloc, calls, *pick, found)?;
             if got.as_str() != wanted {
-                return Err(StepError::DiffersAfter {
-                    calls,
-                    pick: *pick,
-                    wanted: String::from_str(alloc, wanted)?,
-                    got,
-                });
+                return Err(differs_after(alloc, calls, *pick, wanted, got)?);
             }
             self.checks = self.checks.saturating_add(1);
         }
         Ok(())
     }
+
+    /// What is found in what a crash behind so many calls leaves.
+    fn found_behind(
+        &self,
+        alloc: Global,
+        calls: u32,
+        pick: u64,
+        found: Found,
+    ) -> Result<String, StepError> {
+        match self.store.crash(alloc, calls, pick)? {
+            Some(left) => Ok(found_in(alloc, left, found, self.payloads.as_slice())?),
+            None => Err(StepError::Unreadable),
+        }
+    }
+}
+
+fn differs_after(
+    alloc: Global,
+    calls: u32,
+    pick: u64,
+    wanted: &str,
+    got: String,
+) -> Result<StepError, AllocError> {
+    let wanted = String::from_str(alloc, wanted)?;
+    Ok(StepError::DiffersAfter {
+        calls,
+        pick,
+        wanted,
+        got,
+    })
 }
 
 /// The picks, what is to be found, and what it is.
@@ -86,15 +108,16 @@ fn read_found(text: &str) -> Result<(&str, Found, &str), StepError> {
 }
 
 /// What is found in what a crash left.
-fn found_after(
+fn found_in(
     alloc: Global,
-    left: &mut Untold,
+    left: Untold,
     found: Found,
     names: &[Payload],
 ) -> Result<String, AllocError> {
+    let mut left = left;
     match found {
-        Found::Opens => found_by_opening(alloc, left),
-        Found::Holds => found_list(alloc, left, names),
+        Found::Opens => found_by_opening(alloc, &mut left),
+        Found::Holds => found_list(alloc, &mut left, names),
         Found::Leaves(file) => hex_of(alloc, left.file(file)),
     }
 }

@@ -106,19 +106,25 @@ impl Bench {
         let file = short_number(file)?;
         match word {
             "write" => self.write(alloc, file, rest),
-            "sync" => {
-                let answer = self.store.sync(file);
-                self.compare(alloc, rest, done_or_failed(answer))
-            }
-            "read" => {
-                let got = read(alloc, &mut self.store, file)?;
-                self.compare(alloc, rest, got.as_str())
-            }
+            "sync" => self.sync(alloc, file, rest),
+            "read" => self.compare_bytes(alloc, file, rest),
             _ => {
                 let faults = self.store.faults(file);
                 self.compare_number(alloc, rest, faults)
             }
         }
+    }
+
+    /// `sync FILE ANSWER`, behind the file.
+    fn sync(&mut self, alloc: Global, file: u32, wanted: &str) -> Result<(), StepError> {
+        let answer = self.store.sync(file);
+        self.compare(alloc, wanted, done_or_failed(answer))
+    }
+
+    /// `read FILE HEX`, behind the file.
+    fn compare_bytes(&mut self, alloc: Global, file: u32, wanted: &str) -> Result<(), StepError> {
+        let got = read(alloc, &mut self.store, file)?;
+        self.compare(alloc, wanted, got.as_str())
     }
 
     /// `write FILE PLACE HEX ANSWER`, behind the file.
@@ -127,12 +133,22 @@ impl Bench {
         let place = number(place)?;
         let (bytes, wanted) = split_word(rest);
         let bytes = bytes_of(alloc, bytes)?;
-        if place > LONGEST || bytes.len() as u64 > LONGEST {
-            return Err(StepError::Unreadable);
-        }
-        let answer = self.store.write_at(file, place, bytes.as_slice());
-        self.compare(alloc, wanted, done_or_failed(answer))
+        let got = written(&mut self.store, file, place, bytes.as_slice())?;
+        self.compare(alloc, wanted, got)
     }
+}
+
+/// Writes bytes, and tells the answer.
+fn written(
+    store: &mut Untold,
+    file: u32,
+    place: u64,
+    bytes: &[u8],
+) -> Result<&'static str, StepError> {
+    if place > LONGEST || bytes.len() as u64 > LONGEST {
+        return Err(StepError::Unreadable);
+    }
+    Ok(done_or_failed(store.write_at(file, place, bytes)))
 }
 
 fn done_or_failed(answer: Result<(), Failed>) -> &'static str {

@@ -36,22 +36,25 @@ impl Bench {
             "log" => self.open_log(alloc, rest),
             "add" => self.add(alloc, rest),
             "body" => self.write_body(alloc, rest),
-            "holds" => {
-                let got = found_list(alloc, &mut self.store, &self.payloads)?;
-                self.compare(alloc, rest, got.as_str())
-            }
+            "holds" => self.compare_list(alloc, rest),
             _ => self.tell_log(alloc, word, rest),
         }
+    }
+
+    /// `holds NAME ..`
+    fn compare_list(&mut self, alloc: Global, wanted: &str) -> Result<(), StepError> {
+        let got = found_list(alloc, &mut self.store, self.payloads.as_slice())?;
+        self.compare(alloc, wanted, got.as_str())
     }
 
     /// `payload NAME HEX`
     fn name_payload(&mut self, alloc: Global, rest: &str) -> Result<(), StepError> {
         let (name, bytes) = split_word(rest);
-        let payload = Payload {
-            name: String::from_str(alloc, name)?,
-            bytes: bytes_of(alloc, bytes)?,
-        };
-        self.payloads.push(payload).map_err(AllocError::from)?;
+        let name = String::from_str(alloc, name)?;
+        let bytes = bytes_of(alloc, bytes)?;
+        self.payloads
+            .push(Payload { name, bytes })
+            .map_err(AllocError::from)?;
         Ok(())
     }
 
@@ -66,41 +69,60 @@ impl Bench {
                 self.log = Some(log);
                 self.compare(alloc, wanted, "ok")
             }
-            Err(error) => {
-                let got = fault_text(alloc, error)?;
-                self.compare(alloc, wanted, got.as_str())
-            }
+            Err(error) => self.compare_fault(alloc, wanted, error),
         }
+    }
+
+    fn compare_fault(
+        &mut self,
+        alloc: Global,
+        wanted: &str,
+        error: RecError,
+    ) -> Result<(), StepError> {
+        let got = fault_text(alloc, error)?;
+        self.compare(alloc, wanted, got.as_str())
     }
 
     /// `add NAME ANSWER`
     fn add(&mut self, alloc: Global, rest: &str) -> Result<(), StepError> {
         let (name, wanted) = split_word(rest);
         let payload = self.payload(alloc, name)?;
+        match self.add_bytes(payload.as_slice())? {
+            Ok(number) => self.compare_number(alloc, wanted, number),
+            Err(error) => self.compare_fault(alloc, wanted, error),
+        }
+    }
+
+    /// Adds bytes to the log, and gives its answer.
+    fn add_bytes(&mut self, payload: &[u8]) -> Result<Result<u64, RecError>, StepError>
+        requires { length payload.now < 2 ^ 32 }
+    {
         let Some(log) = self.log.take() else {
             return Err(StepError::NothingThere);
         };
-        let (left, answer) = add(log, &mut self.store, payload.as_slice());
+        let (left, answer) = add(log, &mut self.store, payload);
         self.log = left;
-        let got = match answer {
-            Ok(number) => format!(in alloc; "{number}")?,
-            Err(error) => fault_text(alloc, error)?,
-        };
-        self.compare(alloc, wanted, got.as_str())
+        Ok(answer)
     }
 
     /// `body NAME ANSWER`
     fn write_body(&mut self, alloc: Global, rest: &str) -> Result<(), StepError> {
         let (name, wanted) = split_word(rest);
         let payload = self.payload(alloc, name)?;
-        let Some(log) = &mut self.log else {
-            return Err(StepError::NothingThere);
-        };
-        let got = match log.write(&mut self.store, payload.as_slice()) {
-            Ok(()) => String::from_str(alloc, "ok")?,
-            Err(error) => fault_text(alloc, error)?,
-        };
-        self.compare(alloc, wanted, got.as_str())
+        match self.write_bytes(payload.as_slice())? {
+            Ok(()) => self.compare(alloc, wanted, "ok"),
+            Err(error) => self.compare_fault(alloc, wanted, error),
+        }
+    }
+
+    /// Writes bytes as the body of a record, and gives the log's answer.
+    fn write_bytes(&mut self, payload: &[u8]) -> Result<Result<(), RecError>, StepError>
+        requires { length payload.now < 2 ^ 32 }
+    {
+        match &mut self.log {
+            Some(log) => Ok(log.write(&mut self.store, payload)),
+            None => Err(StepError::NothingThere),
+        }
     }
 
     /// `room NUMBER`, `next NUMBER`, `place NUMBER`
@@ -193,14 +215,21 @@ pub(crate) fn found_list(
     let Some(end) = end_of(bytes) else {
         return String::from_str(alloc, "no region");
     };
-    let list = log_of(alloc, bytes, START, end, 1)?;
-    let plain = list_text(alloc, list.as_slice(), names)?;
+    let plain = defined(alloc, bytes, end, names)?;
     let singly = read_singly(alloc, store, end, names)?;
     let at_once = read_at_once(alloc, store, end, names)?;
     if singly != plain || at_once != plain {
         return format!(in alloc; "{plain} / {singly} / {at_once}");
     }
     Ok(plain)
+}
+
+/// The list as the definition gives it.
+fn defined(alloc: Global, bytes: &[u8], end: u64, names: &[Payload]) -> Result<String, AllocError>
+    requires { (1024 ≤ end) × (end ≤ 2 ^ 20) × (end ≤ length bytes.now) }
+{
+    let list = log_of(alloc, bytes, START, end, 1)?;
+    list_text(alloc, list.as_slice(), names)
 }
 
 /// The list as it is read record by record.

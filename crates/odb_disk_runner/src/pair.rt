@@ -29,15 +29,10 @@ impl Bench {
     fn format(&mut self, alloc: Global, rest: &str) -> Result<(), StepError> {
         let (value, wanted) = split_word(rest);
         let value = byte_number(value)?;
-        let answer = Pair::format(&mut self.store, 0, &[value; 40]);
-        self.pair = None;
-        match answer {
-            Ok(pair) => {
-                self.pair = Some(pair);
-                self.compare(alloc, wanted, "ok")
-            }
-            Err(error) => self.compare(alloc, wanted, fault_word(error)),
-        }
+        let answer = format_all(&mut self.store, value);
+        let word = formatted_word(&answer);
+        self.pair = answer.ok();
+        self.compare(alloc, wanted, word)
     }
 
     /// `put VALUE ANSWER`
@@ -47,7 +42,7 @@ impl Bench {
         let Some(pair) = &mut self.pair else {
             return Err(StepError::NothingThere);
         };
-        let answer = pair.put(&mut self.store, &[value; 40]);
+        let answer = put_all(pair, &mut self.store, value);
         self.compare(alloc, wanted, done_word(answer))
     }
 
@@ -56,15 +51,16 @@ impl Bench {
         let Some(pair) = &mut self.pair else {
             return Err(StepError::NothingThere);
         };
-        let answer = pair.settle(&mut self.store);
+        let answer = settle(pair, &mut self.store);
         self.compare(alloc, wanted, done_word(answer))
     }
 
     /// `opens FOUND`
     fn open_pair(&mut self, alloc: Global, wanted: &str) -> Result<(), StepError> {
-        let answer = Pair::open(&mut self.store, 0);
-        let found = found_in(alloc, &answer, self.store.file(0))?;
+        let answer = open(&mut self.store);
+        let found = found_in(alloc, &answer, self.store.file(0));
         self.pair = answer.ok();
+        let found = found?;
         self.compare(alloc, wanted, found.as_str())
     }
 
@@ -73,19 +69,47 @@ impl Bench {
         let Some(pair) = &self.pair else {
             return Err(StepError::NothingThere);
         };
-        let value = pair.value()[0];
-        let got = if pair.settled() {
-            format!(in alloc; "{value} settled")?
-        } else {
-            format!(in alloc; "{value} unsettled")?
-        };
+        let got = kept_text(alloc, pair)?;
         self.compare(alloc, wanted, got.as_str())
+    }
+}
+
+// The calls of a pair, with no clause: what it promises isn't among what is known behind them.
+
+fn format_all(store: &mut Untold, value: u8) -> Result<Pair, PairError> {
+    Pair::format(store, 0, &[value; 40])
+}
+
+fn put_all(pair: &mut Pair, store: &mut Untold, value: u8) -> Result<(), PairError> {
+    pair.put(store, &[value; 40])
+}
+
+fn settle(pair: &mut Pair, store: &mut Untold) -> Result<(), PairError> {
+    pair.settle(store)
+}
+
+fn open(store: &mut Untold) -> Result<Pair, PairError> {
+    Pair::open(store, 0)
+}
+
+fn kept_text(alloc: Global, pair: &Pair) -> Result<String, AllocError> {
+    let value = pair.value()[0];
+    if pair.settled() {
+        return format!(in alloc; "{value} settled");
+    }
+    format!(in alloc; "{value} unsettled")
+}
+
+fn formatted_word(answer: &Result<Pair, PairError>) -> &'static str {
+    match answer {
+        Ok(_) => "ok",
+        Err(error) => fault_word(*error),
     }
 }
 
 /// What opening a pair from its bytes finds.
 pub(crate) fn found_by_opening(alloc: Global, store: &mut Untold) -> Result<String, AllocError> {
-    let answer = Pair::open(store, 0);
+    let answer = open(store);
     found_in(alloc, &answer, store.file(0))
 }
 
@@ -103,12 +127,13 @@ fn found_in(
         return String::from_str(alloc, "not what the definition says");
     }
     match found {
-        Ok(value) => {
-            let value = value[0];
-            format!(in alloc; "{value}")
-        }
+        Ok(value) => first_text(alloc, value[0]),
         Err(error) => String::from_str(alloc, fault_word(error)),
     }
+}
+
+fn first_text(alloc: Global, value: u8) -> Result<String, AllocError> {
+    format!(in alloc; "{value}")
 }
 
 fn done_word(answer: Result<(), PairError>) -> &'static str {

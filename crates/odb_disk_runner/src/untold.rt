@@ -1,6 +1,6 @@
 //! The store in memory, of which proofs are told its counts of faults alone, so that a row may do
 //! with it what it likes.
-ghost use Rattle.std.specs.Prelude.{◌≡◌, ◌≤◌, Ok, IsOk, IfOk, OnErr};
+ghost use Rattle.std.specs.Prelude.{◌≡◌, ◌+◌, ◌≤◌, Ok, IsOk, IfOk, OnErr};
 ghost use Rattle.odb_device.specs.Counts.{Rose};
 
 use odb_device::{Failed, Outside, Store};
@@ -82,6 +82,7 @@ fn counted<T>(answer: Result<T, Failed>, faults: &mut u64) -> Result<T, Failed>
     ensures same { result ≡ answer }
     ensures risen { OnErr result (Rose faults.old faults.new) }
     ensures kept { faults.old ≤ faults.new }
+    ensures once { faults.new ≤ faults.old + 1 }
 {
     if answer.is_err() {
         *faults = faults.saturating_add(1);

@@ -17,12 +17,31 @@ pub(crate) fn number(text: &str) -> Result<u64, StepError> {
 
 /// A decimal below 2^32.
 pub(crate) fn short_number(text: &str) -> Result<u32, StepError> {
-    u32::try_from(number(text)?).map_err(|_| StepError::Unreadable)
+    short(number(text)?)
+}
+
+/// A number that has to be below 2^32.
+pub(crate) fn short(number: u64) -> Result<u32, StepError> {
+    match u32::try_from(number) {
+        Ok(short) => Ok(short),
+        Err(_) => Err(StepError::Unreadable),
+    }
+}
+
+/// A number less another that has to be no greater.
+pub(crate) fn fewer(number: u32, less: u64) -> Result<u32, StepError> {
+    match u64::from(number).checked_sub(less) {
+        Some(left) => short(left),
+        None => Err(StepError::Unreadable),
+    }
 }
 
 /// A decimal below 2^8.
 pub(crate) fn byte_number(text: &str) -> Result<u8, StepError> {
-    u8::try_from(number(text)?).map_err(|_| StepError::Unreadable)
+    match u8::try_from(number(text)?) {
+        Ok(byte) => Ok(byte),
+        Err(_) => Err(StepError::Unreadable),
+    }
 }
 
 /// Bytes by hexadecimal digits, or none by the word `nothing`; a text without digits spells none.

@@ -1,5 +1,5 @@
 //! Counts of faults.
-ghost use Rattle.std.specs.Prelude.{◌≡◌, ◌≤◌, Ok, IsOk, IfOk, OnErr};
+ghost use Rattle.std.specs.Prelude.{◌≡◌, ◌+◌, ◌≤◌, Ok, IsOk, IfOk, OnErr};
 ghost use Rattle.odb_device.specs.Counts.{Rose};
 
 use odb_device::Failed;
@@ -23,6 +23,7 @@ pub(crate) fn counted<T>(answer: io::Result<T>, faults: &mut u64) -> Result<T, F
     ensures same { IsOk answer → faults.new ≡ faults.old }
     ensures risen { OnErr result (Rose faults.old faults.new) }
     ensures kept { faults.old ≤ faults.new }
+    ensures once { faults.new ≤ faults.old + 1 }
 {
     match answer {
         Ok(value) => Ok(value),

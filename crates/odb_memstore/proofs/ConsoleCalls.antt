@@ -1,6 +1,7 @@
 -- What the calls of a console make of what a host in memory shows.
-use Rattle.std.proofs.Common.{◌≡◌, ℕ, ◌+◌, ◌≤◌, Bool, true, false, List, [], ◌++◌, length, take, drop, Some, refl, sym, ◌∙◌, ap, arith, length-take, length-drop}
-use Rattle.std.specs.Prelude.{if◌then◌else◌, ◌==◌, ◌||◌}
+use Rattle.std.proofs.Common.{◌≡◌, inl, inr, ℕ, ◌+◌, ◌≤◌, Bool, true, false, List, [], ◌++◌, length, take, drop, Some, refl, sym, ◌∙◌, ap, subst, arith, length-take, length-drop}
+use Rattle.std.specs.Prelude.{if◌then◌else◌, ◌==◌, ◌||◌, nat_lt}
+use Rattle.std.proofs.lemmas.Bool.{or_parts, cases_Bool}
 use Rattle.std.proofs.lemmas.List.{append-nil, take_min}
 use Rattle.std.proofs.Math.Seq.{take-add}
 use Rattle.odb_device.specs.World.{present}
@@ -11,7 +12,7 @@ use Rattle.odb_memstore.specs.Recording.{is_full, is_listed, fails, noted, refus
 use Rattle.odb_memstore.specs.Tape.{Tape, world_of}
 use Rattle.odb_memstore.specs.Calls.{after_ask, after_refusal, next_input, after_take, is_past_say, after_say}
 use Rattle.odb_memstore.specs.Standing.{IsWhole}
-use Rattle.odb_memstore.proofs.Stepped.{Steps, whole_after, talks}
+use Rattle.odb_memstore.proofs.Stepped.{Steps, none_refused, whole_after, talks}
 use Rattle.odb_memstore.proofs.StoreCalls.{one_more_least}
 
 refused_take : (tape : Tape) → Talks (world_of tape) (world_of (after_refusal Take tape))
@@ -23,18 +24,18 @@ refused_say tape len = talks_at_once (world_of tape) (world_of (after_refusal (S
     (grows_same (present (world_of tape)).said (present (world_of tape)).said refl) (λ g. refl) (omega arith) (omega (arith, one_more_least tape.recording.refused.say))
 
 -- a recorded `take`, after which so much is taken
-module _ (tape : Tape) (whole : IsWhole tape) (k : ℕ) (within : k ≤ length tape.input) (ended : Bool) where
+module _ (tape : Tape) (whole : IsWhole tape) (left : is_full tape.recording ≡ false) (k : ℕ) (within : k ≤ length tape.input) (ended : Bool) where
   abbrev taking : Tape
   taking = record tape { recording = noted Take tape.recording; taken = k; has_ended = ended }
 
-  take_steps : Steps tape taking Take [] []
-  take_steps = record { start = refl; calls = refl; refused = refl; pieces = sym (append-nil tape.pieces); said = sym (append-nil tape.said) }
+  take_steps : Steps tape taking Take (is_listed tape.recording) [] []
+  take_steps = record { start = refl; calls = refl; refused = refl; none = none_refused tape whole left; pieces = sym (append-nil tape.pieces); said = sym (append-nil tape.said) }
 
   taking_whole : IsWhole taking
-  taking_whole = whole_after tape taking Take [] [] take_steps whole tt refl within
+  taking_whole = whole_after tape taking Take (is_listed tape.recording) [] [] take_steps whole tt refl within
 
   taking_talks : Talks (world_of tape) (world_of taking)
-  taking_talks = talks tape taking Take [] [] take_steps whole (λ g. refl) taking_whole
+  taking_talks = talks tape taking Take (is_listed tape.recording) [] [] take_steps whole (λ g. refl) taking_whole
 
 module _ (tape : Tape) (whole : IsWhole tape) (most : ℕ) where
   abbrev taken_bytes : ℕ
@@ -49,18 +50,18 @@ module _ (tape : Tape) (whole : IsWhole tape) (most : ℕ) where
       else record tape { recording = noted Take tape.recording; taken = tape.taken + taken_bytes; has_ended = (taken_bytes == 0) || tape.has_ended }
 
   -- what holds after each of the three
-  cases : (P : Tape → Type 0) → P (after_refusal Take tape) → P (taking tape whole tape.taken whole.taken tape.has_ended) → P (taking tape whole (tape.taken + taken_bytes) more ((taken_bytes == 0) || tape.has_ended)) → P (after_take most tape)
-  cases P past fail done = elim (is_full tape.recording) as (λ b. P (after b (is_listed tape.recording))) [
-    | true ↦ past
-    | false ↦ elim (is_listed tape.recording) as (λ b. P (after false b)) [
-      | true ↦ fail
-      | false ↦ done
-    ]
+  cases : (P : Tape → Type 0) → P (after_refusal Take tape) → (is_full tape.recording ≡ false → P (after false true)) → (is_full tape.recording ≡ false → P (after false false)) → P (after_take most tape)
+  cases P past fail done = elim (cases_Bool (is_full tape.recording)) [
+    | inl full ↦ subst (λ (b : Bool). P (after b (is_listed tape.recording))) (sym full) past
+    | inr left ↦ subst (λ (b : Bool). P (after b (is_listed tape.recording))) (sym left) (elim (is_listed tape.recording) as (λ b. P (after false b)) [
+      | true ↦ fail left
+      | false ↦ done left
+    ])
   ]
 
   pub take_talks : Talks (world_of tape) (world_of (after_take most tape))
-  take_talks = cases (λ t. Talks (world_of tape) (world_of t)) (refused_take tape) (taking_talks tape whole tape.taken whole.taken tape.has_ended)
-      (taking_talks tape whole (tape.taken + taken_bytes) more ((taken_bytes == 0) || tape.has_ended))
+  take_talks = cases (λ t. Talks (world_of tape) (world_of t)) (refused_take tape) (λ left. taking_talks tape whole left tape.taken whole.taken tape.has_ended)
+      (λ left. taking_talks tape whole left (tape.taken + taken_bytes) more ((taken_bytes == 0) || tape.has_ended))
 
   next_taken : take (tape.taken + taken_bytes) tape.input ≡ take tape.taken tape.input ++ next_input most tape
   next_taken =
@@ -74,6 +75,10 @@ module _ (tape : Tape) (whole : IsWhole tape) (most : ℕ) where
 
 -- a `say` of these bytes
 module _ (tape : Tape) (whole : IsWhole tape) (bytes : List ℕ) where
+  -- within its place and room a place is left
+  within_say : is_past_say (length bytes) tape ≡ false → is_full tape.recording ≡ false
+  within_say room = (or_parts (is_full tape.recording) (nat_lt tape.room (length tape.said + length bytes)) room).0
+
   -- the same, whether it is past the room or not, and whether it is listed
   abbrev saying : Bool → Tape
   saying listed = record tape { recording = noted (Say (length bytes)) tape.recording; said = if listed then tape.said else tape.said ++ bytes }
@@ -81,11 +86,12 @@ module _ (tape : Tape) (whole : IsWhole tape) (bytes : List ℕ) where
   abbrev words : List ℕ
   words = if is_listed tape.recording then [] else bytes
 
-  say_steps : Steps tape (saying (is_listed tape.recording)) (Say (length bytes)) [] words
-  say_steps = record {
+  say_steps : is_full tape.recording ≡ false → Steps tape (saying (is_listed tape.recording)) (Say (length bytes)) (is_listed tape.recording) [] words
+  say_steps left = record {
     start = refl;
     calls = refl;
     refused = refl;
+    none = none_refused tape whole left;
     pieces = sym (append-nil tape.pieces);
     said = both (is_listed tape.recording);
   }
@@ -101,14 +107,17 @@ module _ (tape : Tape) (whole : IsWhole tape) (bytes : List ℕ) where
       both true = refl
       both false = refl
 
-  saying_whole : IsWhole (saying (is_listed tape.recording))
-  saying_whole = whole_after tape (saying (is_listed tape.recording)) (Say (length bytes)) [] words say_steps whole tt say_adds whole.taken
+  saying_whole : is_full tape.recording ≡ false → IsWhole (saying (is_listed tape.recording))
+  saying_whole left = whole_after tape (saying (is_listed tape.recording)) (Say (length bytes)) (is_listed tape.recording) [] words (say_steps left) whole tt say_adds whole.taken
 
-  cases_say : (P : Tape → Type 0) → P (after_refusal (Say (length bytes)) tape) → P (saying (is_listed tape.recording)) → P (after_say bytes tape)
-  cases_say P past said = elim (is_past_say (length bytes) tape) as (λ b. P (if b then after_refusal (Say (length bytes)) tape else saying (is_listed tape.recording))) [
-    | true ↦ past
-    | false ↦ said
-  ]
+  cases_say : (P : Tape → Type 0) → P (after_refusal (Say (length bytes)) tape) → (is_full tape.recording ≡ false → P (saying (is_listed tape.recording))) → P (after_say bytes tape)
+  cases_say P past said =
+      let Is : Bool → Type 0 = λ b. P (if b then after_refusal (Say (length bytes)) tape else saying (is_listed tape.recording)) in
+      elim (cases_Bool (is_past_say (length bytes) tape)) [
+        | inl out ↦ subst Is (sym out) past
+        | inr room ↦ subst Is (sym room) (said (within_say room))
+      ]
 
   pub say_talks : Talks (world_of tape) (world_of (after_say bytes tape))
-  say_talks = cases_say (λ t. Talks (world_of tape) (world_of t)) (refused_say tape (length bytes)) (talks tape (saying (is_listed tape.recording)) (Say (length bytes)) [] words say_steps whole (λ g. refl) saying_whole)
+  say_talks = cases_say (λ t. Talks (world_of tape) (world_of t)) (refused_say tape (length bytes))
+      (λ left. talks tape (saying (is_listed tape.recording)) (Say (length bytes)) (is_listed tape.recording) [] words (say_steps left) whole (λ g. refl) (saying_whole left))

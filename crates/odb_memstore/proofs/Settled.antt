@@ -1,8 +1,8 @@
 -- What a host in memory shows of a file that was set.
-use Rattle.std.proofs.Common.{◌≡◌, ◌≢◌, inl, inr, ℕ, ◌+◌, ◌-◌, ◌≤◌, Bool, true, false, List, [], ◌∷◌, length, take, map, refl, sym, ◌∙◌, ap, subst, arith}
+use Rattle.std.proofs.Common.{◌≡◌, ◌≢◌, inl, inr, ℕ, ◌+◌, ◌-◌, ◌≤◌, Bool, true, false, List, [], ◌∷◌, length, map, refl, sym, ◌∙◌, ap, subst, arith}
 use Rattle.std.specs.Prelude.{if◌then◌else◌}
 use Rattle.std.proofs.lemmas.Bool.{false≢true, cases_Bool, cases_eq, ne_eqb, eqb-true}
-use Rattle.std.proofs.lemmas.List.{take_all, length-map}
+use Rattle.std.proofs.lemmas.List.{length-map}
 use Rattle.std.proofs.lemmas.List.Sums.{sum_by-cons}
 use Rattle.odb_device.specs.World.{File}
 use Rattle.odb_memstore.specs.declared.recorder.Call.{Call}
@@ -17,6 +17,7 @@ use Rattle.odb_memstore.specs.Setting.{with_file}
 use Rattle.odb_memstore.specs.Standing.{HasPiece, HavePieces, Stands}
 use Rattle.odb_memstore.proofs.Named.{bytes_of-same, bytes_of-other}
 use Rattle.odb_memstore.proofs.Replays.{other_stays}
+use Rattle.odb_memstore.proofs.Stepped.{all_calls}
 
 -- a call on one file is on no other
 on_one : (file g : ℕ) (c : Call) → g ≢ file → is_on file c ≡ true → is_on g c ≡ false
@@ -83,23 +84,18 @@ module _ (file : ℕ) where
   calls_pieces n (c ∷ calls) has = (call_piece n c has.0, calls_pieces n calls has.1)
 
 module _ (tape : Tape) (file : ℕ) (bytes : List ℕ) where
-  all_calls : (k : ℕ) (calls : List Recorded) → k ≡ length calls → take k calls ≡ calls
-  all_calls k calls e = take_all k calls (omega arith)
-
   pub set_now : file_now (with_file file bytes tape) file ≡ settled bytes
   set_now =
-      let calls = map (forgotten file) tape.recording.calls in
-      ap (λ (l : List Recorded). after_calls tape.pieces file l (settled (bytes_of (with_bytes tape.start file bytes) file))) (all_calls (length calls) calls refl)
+      ap (λ (l : List Recorded). after_calls tape.pieces file l (settled (bytes_of (with_bytes tape.start file bytes) file))) (all_calls (with_file file bytes tape))
       ∙ calls_same file tape.pieces tape.recording.calls (settled (bytes_of (with_bytes tape.start file bytes) file))
       ∙ ap settled (bytes_of-same file bytes tape.start)
 
   pub set_other : (g : ℕ) → g ≢ file → file_now (with_file file bytes tape) g ≡ file_now tape g
   set_other g other =
-      let calls = map (forgotten file) tape.recording.calls in
-      ap (λ (l : List Recorded). after_calls tape.pieces g l (settled (bytes_of (with_bytes tape.start file bytes) g))) (all_calls (length calls) calls refl)
+      ap (λ (l : List Recorded). after_calls tape.pieces g l (settled (bytes_of (with_bytes tape.start file bytes) g))) (all_calls (with_file file bytes tape))
       ∙ calls_other file tape.pieces g tape.recording.calls (settled (bytes_of (with_bytes tape.start file bytes) g)) other
       ∙ ap (λ (l : List ℕ). after_calls tape.pieces g tape.recording.calls (settled l)) (bytes_of-other file bytes tape.start g other)
-      ∙ sym (ap (λ (l : List Recorded). after_calls tape.pieces g l (settled (bytes_of tape.start g))) (all_calls (length tape.recording.calls) tape.recording.calls refl))
+      ∙ sym (ap (λ (l : List Recorded). after_calls tape.pieces g l (settled (bytes_of tape.start g))) (all_calls tape))
 
   pub stands_set : (current files : Shelf) (pieces_room said_room : ℕ) → Stands current pieces_room said_room tape → files.files ≡ with_bytes current.files file bytes
       → length files.files + (tape.recording.places - length tape.recording.calls) ≤ files.places → current.room ≤ files.room → Stands files pieces_room said_room (with_file file bytes tape)
@@ -108,6 +104,7 @@ module _ (tape : Tape) (file : ℕ) (bytes : List ℕ) where
       pieces = calls_pieces file (length tape.pieces) tape.recording.calls stands.whole.pieces;
       said = calls_said file tape.recording.calls ∙ stands.whole.said;
       taken = stands.whole.taken;
+      refused = λ some. omega (arith, stands.whole.refused some, length-map tape.recording.calls (forgotten file));
     };
     bytes = λ g. elim (cases_eq g file) [
       | inl here ↦ subst (λ (k : ℕ). bytes_of files.files k ≡ (file_now (with_file file bytes tape) k).bytes) (sym here)

@@ -1,7 +1,7 @@
 -- What the calls of a store make of what a host in memory shows.
-use Rattle.std.proofs.Common.{◌≡◌, ◌≢◌, inl, ℕ, ◌+◌, ◌^◌, ◌≤◌, Bool, true, false, List, [], ◌++◌, length, take, Some, refl, sym, ◌∙◌, ap, subst, arith, length-append}
-use Rattle.std.specs.Prelude.{◌-◌, ◌^◌, min, if◌then◌else◌, ◌==◌, ◌&&◌, ◌||◌, not}
-use Rattle.std.proofs.lemmas.Bool.{or_parts, false≢true, ne_eqb, eq-eqb}
+use Rattle.std.proofs.Common.{◌≡◌, ◌≢◌, inl, inr, ℕ, ◌+◌, ◌^◌, ◌≤◌, Bool, true, false, List, [], ◌++◌, length, take, Some, refl, sym, ◌∙◌, ap, subst, arith, length-append}
+use Rattle.std.specs.Prelude.{◌-◌, ◌^◌, min, if◌then◌else◌, ◌==◌, ◌&&◌, ◌||◌, not, nat_lt}
+use Rattle.std.proofs.lemmas.Bool.{or_parts, false≢true, ne_eqb, eq-eqb, cases_Bool}
 use Rattle.std.proofs.lemmas.Bool.Decides.{nat_tests}
 use Rattle.std.proofs.lemmas.List.{append-nil, drop_at, take_all}
 use Rattle.odb_device.specs.Images.{part, written, torn, kept}
@@ -9,13 +9,14 @@ use Rattle.odb_device.specs.Calls.{CallsOn, Stays, Writes, Tears, Keeps, Unsettl
 use Rattle.odb_device.proofs.OneCall.{tears_same}
 use Rattle.odb_memstore.specs.declared.recorder.Call.{Call}
 use Rattle.odb_memstore.specs.declared.recorder.Call.TheVariants.{Look, Write, Sync, Take, Say}
+use Rattle.odb_memstore.specs.declared.recorder.Recorded.{Recorded}
 use Rattle.odb_memstore.specs.declared.recorder.Refused.{Refused}
-use Rattle.odb_memstore.specs.Recording.{is_full, is_listed, fails, noted, refused, counted, one_more, is_on}
-use Rattle.odb_memstore.specs.Replay.{after_call, said_in}
-use Rattle.odb_memstore.specs.Tape.{Tape, file_now, is_take, is_say, world_of, failures}
-use Rattle.odb_memstore.specs.Calls.{after_ask, after_refusal, after_write, is_past_write, fails_to_write, file_after_write, file_after_sync}
+use Rattle.odb_memstore.specs.Recording.{is_full, is_listed, fails, noted, noted_as, refused, counted, one_more, is_on}
+use Rattle.odb_memstore.specs.Replay.{after_call, said_in, said_by}
+use Rattle.odb_memstore.specs.Tape.{Tape, time_of, file_now, moment_of, is_take, is_say, world_of, failures}
+use Rattle.odb_memstore.specs.Calls.{after_ask, after_refusal, after_past_write, after_write, total_with, is_past_write, fails_to_write, file_after_write, file_after_sync}
 use Rattle.odb_memstore.specs.Standing.{HasPiece, IsWhole}
-use Rattle.odb_memstore.proofs.Stepped.{Steps, file_after, whole_after, calls_on}
+use Rattle.odb_memstore.proofs.Stepped.{Steps, all_calls, file_is, faults_now, none_refused, file_after, whole_after, calls_on}
 use Rattle.odb_memstore.proofs.Replays.{failures-append}
 
 -- a call of the store, which is on this file alone
@@ -59,41 +60,50 @@ counts_store (Say len) r no_take no_say = absurd (false≢true (sym no_say))
 pub one_more_least : (n : ℕ) → n ≤ one_more n
 one_more_least n = grind (arith, nat_tests)
 
+pub one_more_most : (n : ℕ) → one_more n ≤ n + 1
+one_more_most n = grind (arith, nat_tests)
+
 module _ (tape : Tape) (call : Call) (file : ℕ) (on : IsStoreCall call file) where
   -- a call that isn't recorded
+  refused_file : (g : ℕ) → file_now (after_refusal call tape) g ≡ file_now tape g
+  refused_file g = file_is (after_refusal call tape) g ∙ sym (file_is tape g)
+
   pub refused_on : CallsOn file (world_of tape) (world_of (after_refusal call tape))
   refused_on =
       let r = tape.recording.refused in
       let counts = counts_store call r on.no_take on.no_say in
+      let store : (counted call r).store ≡ one_more r.store = ap (λ (q : Refused). q.store) counts in
       record {
-        later = omega arith;
+        later = omega (arith, store, one_more_least r.store);
         past = λ k le. refl;
-        during = λ k after to. absurd (omega arith);
-        others = λ g differs. refl;
+        during = λ k after to.
+            let last : k ≡ time_of (after_refusal call tape) = omega (arith, store, one_more_most r.store) in
+            ap (moment_of tape) last;
+        others = λ g differs. ap Some (refused_file g);
         told = refl;
-        said = refl;
+        said = ap (λ (l : List Recorded). Some (take (said_by l) tape.said)) (all_calls (after_refusal call tape) ∙ sym (all_calls tape));
         talk = λ i. record {
           taken = (world_of tape).talk.taken;
           has_ended = tape.has_ended;
           take_faults = min (failures is_take tape.recording.calls + (counts i).take) (2 ^ 64 - 1);
           say_faults = min (failures is_say tape.recording.calls + (counts i).say) (2 ^ 64 - 1);
         };
-        faults = λ g. omega (arith, ap (λ (q : Refused). q.store) counts, one_more_least r.store);
+        faults = λ g. omega (arith, faults_now tape g, faults_now (after_refusal call tape) g, store, one_more_least r.store);
       }
 
-  -- a call that is recorded, with the piece that it writes
-  abbrev pub with_call : List ℕ → Tape
-  with_call piece = record tape { recording = noted call tape.recording; pieces = tape.pieces ++ piece }
+  -- a call that is recorded, with the piece that it writes, and whether it failed
+  module _ (failed : Bool) (left : is_full tape.recording ≡ false) (whole : IsWhole tape) (piece : List ℕ) (has : HasPiece (length (tape.pieces ++ piece)) call) where
+    abbrev pub with_call : Tape
+    with_call = record tape { recording = noted_as failed call tape.recording; pieces = tape.pieces ++ piece }
 
-  pub steps : (piece : List ℕ) → Steps tape (with_call piece) call piece []
-  steps piece = record { start = refl; calls = refl; refused = refl; pieces = refl; said = sym (append-nil tape.said) }
+    steps : Steps tape with_call call failed piece []
+    steps = record { start = refl; calls = refl; refused = refl; none = none_refused tape whole left; pieces = refl; said = sym (append-nil tape.said) }
 
-  module _ (whole : IsWhole tape) (piece : List ℕ) (has : HasPiece (length (tape.pieces ++ piece)) call) where
-    pub whole_then : IsWhole (with_call piece)
-    whole_then = whole_after tape (with_call piece) call piece [] (steps piece) whole has (says_nothing call (is_listed tape.recording) on.no_say) whole.taken
+    pub whole_then : IsWhole with_call
+    whole_then = whole_after tape with_call call failed piece [] steps whole has (says_nothing call failed on.no_say) whole.taken
 
-    pub noted_on : CallsOn file (world_of tape) (world_of (with_call piece))
-    noted_on = calls_on tape (with_call piece) call piece [] (steps piece) whole file on.elsewhere refl whole_then
+    pub noted_on : CallsOn file (world_of tape) (world_of with_call)
+    noted_on = calls_on tape with_call call failed piece [] steps whole file on.elsewhere refl whole_then
         (λ i. record {
           taken = (world_of tape).talk.taken;
           has_ended = tape.has_ended;
@@ -101,35 +111,47 @@ module _ (tape : Tape) (call : Call) (file : ℕ) (on : IsStoreCall call file) w
           say_faults = min (same is_say on.no_say i + tape.recording.refused.say) (2 ^ 64 - 1);
         })
       where
-        same : (is : Call → Bool) → is call ≡ false → failures is (with_call piece).recording.calls ≡ failures is tape.recording.calls
+        same : (is : Call → Bool) → is call ≡ false → failures is with_call.recording.calls ≡ failures is tape.recording.calls
         same is none =
-            failures-append is tape.recording.calls (record { call = call; failed = is_listed tape.recording })
-            ∙ omega (arith, ap {B = ℕ} (λ (b : Bool). if b && is_listed tape.recording then 1 else 0) none)
+            failures-append is tape.recording.calls (record { call = call; failed = failed })
+            ∙ omega (arith, ap {B = ℕ} (λ (b : Bool). if b && failed then 1 else 0) none)
 
-    pub file_then : file_now (with_call piece) file ≡ after_call (tape.pieces ++ piece) file call (is_listed tape.recording) (file_now tape file)
-    file_then = file_after tape (with_call piece) call piece [] (steps piece) whole file
+    pub file_then : file_now with_call file ≡ after_call (tape.pieces ++ piece) file call failed (file_now tape file)
+    file_then = file_after tape with_call call failed piece [] steps whole file
 
 -- a call that needs no room
 module _ (tape : Tape) (call : Call) (file : ℕ) (on : IsStoreCall call file) (bare : (n : ℕ) → HasPiece n call) (whole : IsWhole tape) where
-  noted_is : record tape { recording = noted call tape.recording } ≡ with_call tape call file on []
-  noted_is = ap (λ (l : List ℕ). let t : Tape = record tape { recording = noted call tape.recording; pieces = l } in t) (sym (append-nil tape.pieces))
+  noted_is : (failed : Bool) → record tape { recording = noted_as failed call tape.recording } ≡ record tape { recording = noted_as failed call tape.recording; pieces = tape.pieces ++ [] }
+  noted_is failed = ap (λ (l : List ℕ). let t : Tape = record tape { recording = noted_as failed call tape.recording; pieces = l } in t) (sym (append-nil tape.pieces))
 
   has_none : HasPiece (length (tape.pieces ++ [])) call
   has_none = bare (length (tape.pieces ++ []))
 
-  pub ask_on : CallsOn file (world_of tape) (world_of (after_ask call tape))
-  ask_on = elim (is_full tape.recording) as (λ b. CallsOn file (world_of tape) (world_of (record tape { recording = if b then refused call tape.recording else noted call tape.recording }))) [
-    | true ↦ refused_on tape call file on
-    | false ↦ subst (λ (t : Tape). CallsOn file (world_of tape) (world_of t)) (sym noted_is) (noted_on tape call file on whole [] has_none)
+  -- where no place is left it is only counted
+  abbrev either : Bool → Bool → Tape
+  either failed full = record tape { recording = if full then refused call tape.recording else noted_as failed call tape.recording }
+
+  pub either_on : (failed : Bool) → CallsOn file (world_of tape) (world_of (either failed (is_full tape.recording)))
+  either_on failed = elim (cases_Bool (is_full tape.recording)) [
+    | inl full ↦ subst (λ (b : Bool). CallsOn file (world_of tape) (world_of (either failed b))) (sym full) (refused_on tape call file on)
+    | inr left ↦ subst (λ (b : Bool). CallsOn file (world_of tape) (world_of (either failed b))) (sym left)
+        (subst (λ (t : Tape). CallsOn file (world_of tape) (world_of t)) (sym (noted_is failed)) (noted_on tape call file on failed left whole [] has_none))
   ]
 
   -- what it leaves of the file
-  pub ask_file : file_now (after_ask call tape) file ≡ (if is_full tape.recording then file_now tape file else after_call (tape.pieces ++ []) file call (is_listed tape.recording) (file_now tape file))
-  ask_file = elim (is_full tape.recording) as (λ b. file_now (record tape { recording = if b then refused call tape.recording else noted call tape.recording }) file
-      ≡ (if b then file_now tape file else after_call (tape.pieces ++ []) file call (is_listed tape.recording) (file_now tape file))) [
-        | true ↦ refl
-        | false ↦ ap (λ (t : Tape). file_now t file) noted_is ∙ file_then tape call file on whole [] has_none
+  pub either_file : (failed : Bool) → file_now (either failed (is_full tape.recording)) file ≡ (if is_full tape.recording then file_now tape file else after_call (tape.pieces ++ []) file call failed (file_now tape file))
+  either_file failed =
+      let Is : Bool → Type 0 = λ b. file_now (either failed b) file ≡ (if b then file_now tape file else after_call (tape.pieces ++ []) file call failed (file_now tape file)) in
+      elim (cases_Bool (is_full tape.recording)) [
+        | inl full ↦ subst Is (sym full) (refused_file tape call file on file)
+        | inr left ↦ subst Is (sym left) (ap (λ (t : Tape). file_now t file) (noted_is failed) ∙ file_then tape call file on failed left whole [] has_none)
       ]
+
+  pub ask_on : CallsOn file (world_of tape) (world_of (after_ask call tape))
+  ask_on = either_on (is_listed tape.recording)
+
+  pub ask_file : file_now (after_ask call tape) file ≡ (if is_full tape.recording then file_now tape file else after_call (tape.pieces ++ []) file call (is_listed tape.recording) (file_now tape file))
+  ask_file = either_file (is_listed tape.recording)
 
 module _ (tape : Tape) (file : ℕ) (whole : IsWhole tape) where
   bare_look : (n : ℕ) → HasPiece n (Look file)
@@ -181,12 +203,27 @@ module _ (tape : Tape) (file at : ℕ) (bytes : List ℕ) (whole : IsWhole tape)
 
   -- the same, whether it is past the room or not
   abbrev after : Bool → Tape
-  after past = if past then after_refusal call tape else record tape { recording = noted call tape.recording; pieces = tape.pieces ++ bytes }
+  after past = if past then after_past_write file tape else record tape { recording = noted call tape.recording; pieces = tape.pieces ++ bytes }
+
+  bare_write : (n : ℕ) → HasPiece n (Look file)
+  bare_write n = tt
+
+  -- a write past its place or room leaves the file
+  past_file : file_now (after_past_write file tape) file ≡ file_now tape file
+  past_file = either_file tape (Look file) file (look_on file) bare_write whole true ∙ both (is_full tape.recording)
+    where
+      both : (b : Bool) → (if b then file_now tape file else file_now tape file) ≡ file_now tape file
+      both true = refl
+      both false = refl
+
+  -- within its place and room a place is left
+  within : is_past_write file at (length bytes) tape ≡ false → is_full tape.recording ≡ false
+  within room = (or_parts (is_full tape.recording) (nat_lt tape.room (total_with tape file (at + length bytes))) (or_parts (is_full tape.recording || nat_lt tape.room (total_with tape file (at + length bytes))) (nat_lt tape.room (length tape.pieces + length bytes)) room).0).0
 
   pub write_call : CallsOn file (world_of tape) (world_of (after_write file at bytes tape))
-  write_call = elim (is_past_write file at (length bytes) tape) as (λ b. CallsOn file (world_of tape) (world_of (after b))) [
-    | true ↦ refused_on tape call file on
-    | false ↦ noted_on tape call file on whole bytes has
+  write_call = elim (cases_Bool (is_past_write file at (length bytes) tape)) [
+    | inl past ↦ subst (λ (b : Bool). CallsOn file (world_of tape) (world_of (after b))) (sym past) (either_on tape (Look file) file (look_on file) bare_write whole true)
+    | inr room ↦ subst (λ (b : Bool). CallsOn file (world_of tape) (world_of (after b))) (sym room) (noted_on tape call file on (is_listed tape.recording) (within room) whole bytes has)
   ]
 
   -- the piece just written is the last
@@ -204,10 +241,10 @@ module _ (tape : Tape) (file at : ℕ) (bytes : List ℕ) (whole : IsWhole tape)
   pub write_leaves : file_now (after_write file at bytes tape) file ≡ file_after_write file at bytes tape
   write_leaves =
       let f = file_now tape file in
-      elim (is_past_write file at (length bytes) tape) as (λ b. file_now (after b) file
-      ≡ (if b then f else if is_listed tape.recording then torn at (length bytes) f.bytes f else written at bytes f)) [
-        | true ↦ refl
-        | false ↦ file_then tape call file on whole bytes has ∙ written_file (is_listed tape.recording)
+      let Is : Bool → Type 0 = λ b. file_now (after b) file ≡ (if b then f else if is_listed tape.recording then torn at (length bytes) f.bytes f else written at bytes f) in
+      elim (cases_Bool (is_past_write file at (length bytes) tape)) [
+        | inl past ↦ subst Is (sym past) past_file
+        | inr room ↦ subst Is (sym room) (file_then tape call file on (is_listed tape.recording) (within room) whole bytes has ∙ written_file (is_listed tape.recording))
       ]
 
   pub write_done : fails_to_write file at (length bytes) tape ≡ false → Writes file at bytes (world_of tape) (world_of (after_write file at bytes tape))
@@ -219,9 +256,11 @@ module _ (tape : Tape) (file at : ℕ) (bytes : List ℕ) (whole : IsWhole tape)
       ∙ ap (λ (b : Bool). if b then torn at (length bytes) f.bytes f else written at bytes f) both.1)
 
   pub write_tears : fails_to_write file at (length bytes) tape ≡ true → Tears file at (length bytes) (world_of tape) (world_of (after_write file at bytes tape))
-  write_tears = elim (is_past_write file at (length bytes) tape) as (λ b. (b || is_listed tape.recording) ≡ true → Tears file at (length bytes) (world_of tape) (world_of (after b))) [
-    | true ↦ λ failed. inl refl
-    | false ↦ λ failed. tears_same file at (length bytes) (file_now tape file) (world_of tape) (world_of (after false)) refl
-        (ap Some (file_then tape call file on whole bytes has ∙ written_file (is_listed tape.recording)
-        ∙ ap (λ (b : Bool). if b then torn at (length bytes) (file_now tape file).bytes (file_now tape file) else written at bytes (file_now tape file)) failed))
-  ]
+  write_tears =
+      let Is : Bool → Type 0 = λ b. (b || is_listed tape.recording) ≡ true → Tears file at (length bytes) (world_of tape) (world_of (after b)) in
+      elim (cases_Bool (is_past_write file at (length bytes) tape)) [
+        | inl past ↦ subst Is (sym past) (λ failed. inl (ap Some past_file))
+        | inr room ↦ subst Is (sym room) (λ failed. tears_same file at (length bytes) (file_now tape file) (world_of tape) (world_of (after false)) refl
+            (ap Some (file_then tape call file on (is_listed tape.recording) (within room) whole bytes has ∙ written_file (is_listed tape.recording)
+            ∙ ap (λ (b : Bool). if b then torn at (length bytes) (file_now tape file).bytes (file_now tape file) else written at bytes (file_now tape file)) failed)))
+      ]

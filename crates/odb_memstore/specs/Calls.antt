@@ -5,7 +5,7 @@ use Rattle.odb_device.specs.Images.{written, torn, kept}
 use Rattle.odb_memstore.specs.declared.recorder.Call.{Call}
 use Rattle.odb_memstore.specs.declared.recorder.Call.TheVariants.{Write, Take, Say}
 use Rattle.odb_memstore.specs.Numbered.{all_lengths}
-use Rattle.odb_memstore.specs.Recording.{is_full, is_listed, fails, asked, noted, refused}
+use Rattle.odb_memstore.specs.Recording.{is_full, is_listed, fails, asked, noted, past_write, refused}
 use Rattle.odb_memstore.specs.Tape.{Tape, file_now}
 
 -- the lengths of all files together, were this one at least so long
@@ -37,15 +37,19 @@ fails_to_say n tape = is_past_say n tape || is_listed tape.recording
 abbrev pub after_ask : Call → Tape → Tape
 after_ask call tape = record tape { recording = asked call tape.recording }
 
--- a call past the places or the room isn't recorded, only counted
+-- a call that isn't recorded is only counted
 abbrev pub after_refusal : Call → Tape → Tape
 after_refusal call tape = record tape { recording = refused call tape.recording }
 
--- what a write makes of the record: its bytes are kept with it, also where it fails
+-- what a write past its place or room makes of the record
+abbrev pub after_past_write : ℕ → Tape → Tape
+after_past_write file tape = record tape { recording = past_write file tape.recording }
+
+-- what a write makes of the record: its bytes are kept with it, also where it is listed
 abbrev pub after_write : ℕ → ℕ → List ℕ → Tape → Tape
 after_write file at bytes tape =
     let call = Write file at (length tape.pieces) (length bytes) in
-    if is_past_write file at (length bytes) tape then after_refusal call tape
+    if is_past_write file at (length bytes) tape then after_past_write file tape
     else record tape { recording = noted call tape.recording; pieces = tape.pieces ++ bytes }
 
 -- A file after a write. One past its place or room leaves all as it was; one that is listed leaves

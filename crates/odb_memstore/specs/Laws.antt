@@ -1,5 +1,5 @@
 -- What is read is one of the images, for what a host in memory records.
-use Rattle.std.specs.Prelude.{ℕ, Bool, true, false, if◌then◌else◌, ◌==◌, ◌&&◌, not, List, [], ◌∷◌, length, take}
+use Rattle.std.specs.Prelude.{ℕ, Bool, true, false, if◌then◌else◌, ◌==◌, ◌&&◌, not, List, [], ◌∷◌, take}
 use Rattle.odb_device.specs.World.{File, file_of}
 use Rattle.odb_device.specs.Images.{IsImage, ReadsImage, part, written, torn, kept}
 use Rattle.odb_device.proofs.Torn.{image_written, image_kept_bytes, image_now_torn}
@@ -8,7 +8,7 @@ use Rattle.odb_memstore.specs.declared.recorder.Call.TheVariants.{Look, Write, S
 use Rattle.odb_memstore.specs.declared.recorder.Recorded.{Recorded}
 use Rattle.odb_memstore.specs.Numbered.{bytes_of}
 use Rattle.odb_memstore.specs.Replay.{settled, after_call, after_calls}
-use Rattle.odb_memstore.specs.Tape.{Tape, world_of}
+use Rattle.odb_memstore.specs.Tape.{Tape, time_of, world_of}
 
 -- the bytes of a file are one of its images
 abbrev ReadsOne : File → Type 0
@@ -42,6 +42,6 @@ one_calls pieces file (c ∷ calls) f one =
 
 pub tape_reads_image : (tape : Tape) (file : ℕ) → ReadsImage (file_of file (world_of tape))
 tape_reads_image tape file =
-    let calls = tape.recording.calls in
+    let calls = take (time_of tape) tape.recording.calls in
     let first = settled (bytes_of tape.start file) in
-    one_calls tape.pieces file (take (length calls) calls) first (image_kept_bytes first)
+    one_calls tape.pieces file calls first (image_kept_bytes first)

@@ -1,5 +1,5 @@
 -- The record of the calls made.
-use Rattle.std.specs.Prelude.{ℕ, ◌+◌, ◌-◌, ◌^◌, Bool, false, if◌then◌else◌, ◌==◌, ◌||◌, nat_le, nat_lt, List, [], ◌∷◌, ◌++◌, length}
+use Rattle.std.specs.Prelude.{ℕ, ◌+◌, ◌-◌, ◌^◌, Bool, true, false, if◌then◌else◌, ◌==◌, ◌||◌, nat_le, nat_lt, List, [], ◌∷◌, ◌++◌, length}
 use Rattle.std.specs.List.{list_any}
 use Rattle.odb_memstore.specs.declared.recorder.Call.{Call}
 use Rattle.odb_memstore.specs.declared.recorder.Call.TheVariants.{Look, Write, Sync, Take, Say}
@@ -7,7 +7,7 @@ use Rattle.odb_memstore.specs.declared.recorder.Recorded.{Recorded}
 use Rattle.odb_memstore.specs.declared.recorder.Refused.{Refused}
 
 -- how many places there are, the numbers of the calls that are to fail, the calls from number 0 on,
--- and how many found no place or no room
+-- and how many aren't recorded: those that found no place, and each `say` that found no room
 pub record Recording : Type 0 where
   pub places : ℕ
   pub failing : List ℕ
@@ -47,7 +47,7 @@ fails r = is_full r || is_listed r
 abbrev pub one_more : ℕ → ℕ
 one_more n = if nat_lt n (2 ^ 64 - 1) then n + 1 else n
 
--- one more call of this kind that found no place or no room
+-- one more call of this kind that isn't recorded
 abbrev pub counted : Call → Refused → Refused
 counted Take r = record r { take = one_more r.take }
 counted (Say len) r = record r { say = one_more r.say }
@@ -59,9 +59,19 @@ counted (Sync file) r = record r { store = one_more r.store }
 abbrev pub refused : Call → Recording → Recording
 refused call r = record r { refused = counted call r.refused }
 
+-- the call is recorded, and whether it failed
+abbrev pub noted_as : Bool → Call → Recording → Recording
+noted_as failed call r =
+    record r { calls = r.calls ++ (record { call = call; failed = failed }) ∷ [] }
+
 -- the call is recorded, and fails where it is listed
 abbrev pub noted : Call → Recording → Recording
-noted call r = record r { calls = r.calls ++ (record { call = call; failed = is_listed r }) ∷ [] }
+noted call r = noted_as (is_listed r) call r
+
+-- a write of the file that finds no room is recorded where a place is left, as a look that failed
+abbrev pub past_write : ℕ → Recording → Recording
+past_write file r =
+    if is_full r then refused (Look file) r else noted_as true (Look file) r
 
 -- a call that needs no room is recorded where a place is left
 abbrev pub asked : Call → Recording → Recording

@@ -1,5 +1,5 @@
 -- What the calls for tests make of a host in memory.
-use Rattle.std.specs.Prelude.{◌≡◌, ◌≢◌, ℕ, List, [], ◌∷◌, ◌++◌, map}
+use Rattle.std.specs.Prelude.{◌≡◌, ◌≢◌, ℕ, List, ◌++◌, map}
 use Rattle.odb_device.specs.World.{World, file_of}
 use Rattle.odb_memstore.specs.Numbered.{with_bytes}
 use Rattle.odb_memstore.specs.Recording.{forgotten, with_listed}

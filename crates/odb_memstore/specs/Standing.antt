@@ -1,5 +1,5 @@
 -- How what a host in memory holds goes with its record.
-use Rattle.std.specs.Prelude.{◌≡◌, ℕ, ◌+◌, ◌-◌, ◌≤◌, ◌^◌, List, [], ◌∷◌, length}
+use Rattle.std.specs.Prelude.{◌≡◌, ℕ, ◌+◌, ◌<◌, ◌≤◌, ◌^◌, List, [], ◌∷◌, length}
 use Rattle.odb_memstore.specs.declared.recorder.Call.{Call}
 use Rattle.odb_memstore.specs.declared.recorder.Call.TheVariants.{Look, Write, Sync, Take, Say}
 use Rattle.odb_memstore.specs.declared.recorder.Recorded.{Recorded}
@@ -22,11 +22,14 @@ abbrev pub HavePieces : ℕ → List Recorded → Type 0
 HavePieces n [] = Unit {0}
 HavePieces n (c ∷ calls) = HasPiece n c.call × HavePieces n calls
 
--- the record has the pieces of its calls, and all that they said
+-- the record has the pieces of its calls, and all that they said; and a call of the store isn't
+-- recorded only where no place is left
 pub record IsWhole (tape : Tape) : Type 0 where
   pub pieces : HavePieces (length tape.pieces) tape.recording.calls
   pub said : said_by tape.recording.calls ≡ length tape.said
   pub taken : tape.taken ≤ length tape.input
+  pub refused : 0 < tape.recording.refused.store
+      → tape.recording.places ≤ length tape.recording.calls
 
 -- a call that needs no room, and changes no bytes
 abbrev pub IsBare : Call → Type 0

@@ -39,16 +39,14 @@ abbrev pub file_at : Tape → ℕ → ℕ → File
 file_at tape k file =
     after_calls tape.pieces file (take k tape.recording.calls) (settled (bytes_of tape.start file))
 
+-- how many moments there are behind the first: one for each call on the record, and behind these
+-- one for each call of the store that found no place
+abbrev pub time_of : Tape → ℕ
+time_of tape = length tape.recording.calls + tape.recording.refused.store
+
 -- a file now
 abbrev pub file_now : Tape → ℕ → File
-file_now tape file = file_at tape (length tape.recording.calls) file
-
--- the files and the bytes said after the first k calls
-abbrev pub moment_of : Tape → ℕ → Moment
-moment_of tape k = record {
-  files = λ file. Some (file_at tape k file);
-  said = Some (take (said_by (take k tape.recording.calls)) tape.said);
-}
+file_now tape file = file_at tape (time_of tape) file
 
 -- how many calls of a kind failed
 abbrev pub failures : (Call → Bool) → List Recorded → ℕ
@@ -57,6 +55,19 @@ failures is calls = count_by (λ c. is c.call && c.failed) calls
 -- the count of a file's faults: its calls that failed, and those of the store that weren't recorded
 abbrev pub faults_on : ℕ → Recording → ℕ
 faults_on file r = min (failures (is_on file) r.calls + r.refused.store) (2 ^ 64 - 1)
+
+-- and at the moment k, with what failed by then
+abbrev pub faults_at : Recording → ℕ → ℕ → ℕ
+faults_at r k file =
+    min (failures (is_on file) (take k r.calls) + (k - length r.calls)) (2 ^ 64 - 1)
+
+-- the files, the bytes said and the counts at the moment k
+abbrev pub moment_of : Tape → ℕ → Moment
+moment_of tape k = record {
+  files = λ file. Some (file_at tape k file);
+  said = Some (take (said_by (take k tape.recording.calls)) tape.said);
+  faults = faults_at tape.recording k;
+}
 
 -- the call is a `take`
 abbrev pub is_take : Call → Bool
@@ -74,14 +85,13 @@ is_say (Write file at from len) = false
 is_say (Sync file) = false
 is_say Take = false
 
--- What it shows: each call is a moment, and all is told. A file's count is that of its failed
--- calls, and of all calls of the store that found no place or no room; like each count it stands
--- still at the end of its type.
+-- What it shows: each call is a moment, but for those of the console that found no place or no
+-- room; and all is told. A file's count is that of its failed calls, and of all calls of the store that
+-- found no place; like each count it stands still at the end of its type.
 abbrev pub world_of : Tape → World
 world_of tape = record {
-  time = length tape.recording.calls;
+  time = time_of tape;
   moment = moment_of tape;
-  faults = λ file. faults_on file tape.recording;
   talk = record {
     taken = Some (take tape.taken tape.input);
     has_ended = tape.has_ended;

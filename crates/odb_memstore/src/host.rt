@@ -21,10 +21,11 @@ use std::marker::Model;
 /// one until this stands at 2^64 - 1.
 ///
 /// A call that is listed stands on the record: the range of a `write_at` may then hold anything
-/// after a crash, and a `sync` settles nothing. A call past its place or room isn't recorded and
-/// leaves the images too; one of the store counts as a fault of each file. A `write_at` is past its
-/// room where the lengths of all files, or those of all pieces written, would be above the room
-/// together, a `say` where the bytes said would be.
+/// after a crash, and a `sync` settles nothing. A `write_at` past its room leaves the images too,
+/// and stands on the record as a look. A call that finds no place isn't recorded and leaves them
+/// too; one of the store counts as a fault of each file. Nor is a `say` past its room recorded. A
+/// `write_at` is past its room where the lengths of all files, or those of all pieces written,
+/// would be above the room together, a `say` where the bytes said would be.
 ///
 /// Each call of the traits takes a pass over the numbers listed, and one of the store a pass over
 /// the entries of the files; a `write_at` that makes a file longer moves all that lies behind it.
@@ -131,7 +132,7 @@ impl MemHost {
             len: bytes.len(),
         };
         if self.is_past_write(file, at, bytes.len()) {
-            self.recorder.refuse(call);
+            self.recorder.note_past_write(file);
             return false;
         }
         add(&mut self.pieces, bytes);

@@ -1,6 +1,6 @@
 //! Files in memory, with no console beside them.
 ghost use Rattle.std.specs.Prelude.{◌≡◌, ◌+◌, ◌^◌, ◌≤◌, ℕ, ◌↔◌, [], Some, length, IfOk, OnOk, OnErr, IsErr, IsTrue};
-ghost use Rattle.odb_device.specs.World.{file_of};
+ghost use Rattle.odb_device.specs.World.{faults_of, file_of};
 ghost use Rattle.odb_device.specs.Calls.{CallsOn, HasCause, Stays, Writes, Tears, Keeps, Unsettles, HasLength, HasRead};
 ghost use Rattle.odb_memstore.specs.Recording.{fails};
 ghost use Rattle.odb_memstore.specs.Replay.{settled};
@@ -74,7 +74,7 @@ impl MemStore {
 
     /// A file's count of faults; `MemHost::faults` says more.
     pub fn faults(&self, file: u32) -> u64
-        ensures { result ≡ (world_of self.now).faults file }
+        ensures { result ≡ faults_of file (world_of self.now) }
     {
         self.host.faults(file)
     }

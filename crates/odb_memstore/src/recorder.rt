@@ -9,8 +9,8 @@ use std::marker::Model;
 /// What was called.
 #[derive(Clone, Copy, Debug, PartialEq, Eq)]
 pub enum Call {
-    /// `length` or `read_at`, which leave the file; or any call on a file whose bytes `set_file`
-    /// has given since.
+    /// `length` or `read_at`, which leave the file; a `write_at` past its room; or any call on a
+    /// file whose bytes `set_file` has given since.
     Look {
         file: u32,
     },
@@ -39,12 +39,12 @@ pub enum Call {
 pub struct Recorded {
     /// What was called.
     pub call: Call,
-    /// It was listed, and so answered `Failed`.
+    /// It was listed or past its room, and so answered `Failed`.
     pub failed: bool,
 }
 
-/// How many calls found no place or no room, and so aren't on the record; each count stands still
-/// at its type's end.
+/// How many calls aren't on the record, since they found no place, or a `say` no room; each count
+/// stands still at its type's end.
 #[derive(Clone, Copy, Debug, PartialEq, Eq)]
 pub struct Refused {
     /// Calls of the store, on whichever file.
@@ -85,7 +85,7 @@ impl Model for Recorder {
 
 impl Recorder {
     ghost use Rattle.std.specs.Prelude.{◌≤◌, ◌+◌, ◌-◌, ◌^◌, min, not};
-    ghost use Rattle.odb_memstore.specs.Recording.{no_calls, asked, refused, fails, is_full, places_left, with_listed};
+    ghost use Rattle.odb_memstore.specs.Recording.{no_calls, asked, past_write, refused, fails, is_full, places_left, with_listed};
     ghost use Rattle.odb_memstore.specs.Tape.{faults_on};
 
     /// An empty record with so many places.
@@ -169,6 +169,18 @@ impl Recorder {
         let failed = is_listed(&self.failing, self.calls.len());
         self.calls.push_reserved(Recorded { call, failed });
         !failed
+    }
+
+    /// Records a write past its room as a look that failed, or counts it where no place is left.
+    pub(crate) fn note_past_write(&mut self, file: u32)
+        ensures { self.new ≡ past_write file self.old }
+    {
+        let call = Call::Look { file };
+        if self.is_full() {
+            self.refuse(call);
+            return;
+        }
+        self.calls.push_reserved(Recorded { call, failed: true });
     }
 
     /// Counts a call that isn't recorded.

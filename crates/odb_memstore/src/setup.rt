@@ -1,6 +1,6 @@
 //! The calls of a host in memory that tests make.
 ghost use Rattle.std.specs.Prelude.{◌≡◌, Some, length, OnOk, OnErr};
-ghost use Rattle.odb_device.specs.World.{file_of, present};
+ghost use Rattle.odb_device.specs.World.{faults_of, file_of, present};
 ghost use Rattle.odb_memstore.specs.Replay.{settled};
 ghost use Rattle.odb_memstore.specs.Tape.{file_now, world_of};
 ghost use Rattle.odb_memstore.specs.Setting.{with_failing, with_input, with_file, LeavesOthers};
@@ -66,11 +66,11 @@ impl MemHost {
     }
 
     /// A file's count of faults: its calls that failed, and all calls of the store that found no
-    /// place or no room.
+    /// place.
     ///
     /// It takes a pass over the record.
     pub fn faults(&self, file: u32) -> u64
-        ensures { result ≡ (world_of self.now).faults file }
+        ensures { result ≡ faults_of file (world_of self.now) }
     {
         self.recorder.faults(file)
     }

@@ -71,17 +71,18 @@ fn host_with(alloc: Global, input: &[u8]) -> Result<MemHost, MemError> {
 
 #[test]
 fn refuses_past_its_room_and_places(rt: HostRuntime) -> Result<(), Fail> {
-    let mut host = MemHost::new(rt.alloc(), 4, 3)?;
-    assert!(rt; !writes(&mut host, 0, 0, b"abcde"));
-    assert!(rt; !writes(&mut host, 0, 5, b""));
-    assert!(rt; !says(&mut host, b"12345"));
-    assert!(rt; counts(&host, [2, 2], 0));
+    let mut host = MemHost::new(rt.alloc(), 4, 6)?;
+    assert!(rt; !writes(&mut host, 3, 0, b"abcde"));
+    assert!(rt; !writes(&mut host, 3, 5, b""));
+    assert!(rt; !says(&mut host, b"12345"), "it isn't recorded");
+    assert!(rt; counts(&host, [2, 0], 2));
     assert!(rt; writes(&mut host, 1, 0, b"abc"));
-    assert!(rt; !writes(&mut host, 1, 0, b"de"), "five bytes of pieces");
+    assert!(rt; !writes(&mut host, 4, 0, b"de"), "five bytes of pieces");
     assert!(rt; writes(&mut host, 0, 1, b""));
     assert!(rt; says(&mut host, b"1234"));
     assert!(rt; !syncs(&mut host, 1), "no place is left");
-    assert!(rt; counts(&host, [4, 4], 3));
+    assert!(rt; !writes(&mut host, 4, 0, b"f"), "no place is left");
+    assert!(rt; counts(&host, [4, 3], 6));
     Ok(())
 }
 

@@ -1,134 +1,48 @@
 -- States that agree on the ranges that a statement reads give it the same meaning.
-use Rattle.std.proofs.Common.{◌≡◌, ℕ, Bool, true, false, ◌&&◌, ◌||◌, ◌==◌, not, cond, List, [], ◌∷◌, ◌++◌, map, length, codes, is_some, refl, sym, ap, subst, ◌∙◌, eq-eqb, nat_lt, Option, Some, None, slice_get, unwrap_or, if◌then◌else◌}
-use Rattle.std.specs.List.{filter}
-use Rattle.odb_model.specs.declared.reply.Reply.TheVariants.{Done, Duplicate, TooManyWrites}
-use Rattle.std.specs.declared.cmp.Ordering.{Ordering}
-use Rattle.std.specs.declared.cmp.Ordering.TheVariants.{Less, Equal, Greater}
-use Rattle.std.specs.Ordering.{is_eq, is_lt, eq_by_cmp, ordering_reverse}
+use Rattle.std.proofs.Common.{◌≡◌, ℕ, Bool, true, false, ◌&&◌, ◌||◌, ◌==◌, not, cond, List, [], ◌∷◌, map, length, codes, is_some, refl, sym, ap, subst, ◌∙◌, eq-eqb, Option, Some, None}
+use Rattle.std.specs.Option.{option_or, option_and_then}
+use Rattle.std.specs.List.{filter, flat_map, list_any}
+use Rattle.std.specs.Ordering.{is_eq, eq_by_cmp}
 use Rattle.std.specs.Cmp.{tied_itself}
 use Rattle.std.specs.Cmp.Lexicographic.{pointwise}
 use Rattle.std.proofs.Math.Seq.{take-length}
 use Rattle.std.specs.FinMap.{get, entries}
 use Rattle.odb_values.specs.declared.value.Value.{Value}
-use Rattle.odb_values.specs.declared.value.Value.TheVariants.{Null}
-use Rattle.odb_values.specs.declared.edge.Edge.TheVariants.{Free, Beyond}
 use Rattle.odb_values.specs.declared.range.Range.{Range}
 use Rattle.odb_values.specs.Value.{value_cmp, is_null}
 use Rattle.odb_values.specs.ValueOrder.{value_cmp_total}
-use Rattle.odb_values.specs.Range.{passes_low}
 use Rattle.odb_model.specs.declared.write.Write.{Write}
-use Rattle.odb_model.specs.declared.statement.What.{What}
-use Rattle.odb_model.specs.declared.predicate.Compare.{Compare}
-use Rattle.odb_model.specs.declared.predicate.Compare.TheVariants.{Eq, Ne, Lt, Le, Gt, Ge}
-use Rattle.odb_model.specs.declared.predicate.Operand.{Operand}
-use Rattle.odb_model.specs.declared.predicate.Operand.TheVariants.{Column as ColumnOf, Literal}
-use Rattle.odb_model.specs.declared.truth.Truth.{Truth}
-use Rattle.odb_model.specs.declared.truth.Truth.TheVariants.{Unknown}
-use Rattle.odb_model.specs.declared.predicate.Predicate.{Predicate, Not', And', Or', fold-Predicate, fold-roll-Predicate}
-use Rattle.odb_model.specs.declared.predicate.Predicate.TheOpen.{Predicate-F}
-use Rattle.odb_model.specs.declared.predicate.Predicate.TheVariants.{Test, Null as IsNull, rolls-Test}
+use Rattle.odb_model.specs.declared.reply.Reply.{Reply}
+use Rattle.odb_model.specs.declared.reply.Reply.TheVariants.{NullNotAllowed, Duplicate}
+use Rattle.odb_model.specs.declared.predicate.Predicate.{Predicate}
 use Rattle.odb_model.specs.declared.statement.Statement.{Statement}
-use Rattle.odb_model.specs.declared.statement.Statement.TheVariants.{Start, Commit, Select, Insert, Rollback, Update, Delete, CreateDatabank, CreateTable, DropTable, CreateShadow, ShadowOnline, ShadowOffline, ShadowMaster, DropShadow, CreateBackup, BackupReady, DropBackup, Restore}
+use Rattle.odb_model.specs.declared.statement.Statement.TheVariants.{Start, Commit, Select, Insert, Rollback, Update, Delete}
 use Rattle.odb_model.specs.declared.table_key.TableKey.{TableKey}
-use Rattle.odb_model.specs.State.{State, table_key_cmp, table_key_of, changed, after_writes, is_in, is_in_any, AgreeOn, part_in, rows_of}
-use Rattle.odb_model.specs.Table.{Column, Table, kv, table_of, is_named, in_columns, key_of}
-use Rattle.odb_model.specs.Truth.{truth_if, holds, compared, operand_value, truth_step, truth_of, is_true, matches}
-use Rattle.odb_model.specs.Meaning.{meaning, refused, selected, inserted, put_of, matching_rows, has_duplicate, different, most_writes, projected}
-use Rattle.odb_model.specs.Reads.{reads, whole, range_of, point_of, points_of, where_range, dictionary_row}
+use Rattle.odb_model.specs.State.{State, table_key_cmp, table_key_of, changed, after_writes, is_in, is_in_any, AgreeOn}
+use Rattle.odb_model.specs.Table.{Table, kv, is_named, key_of}
+use Rattle.odb_model.specs.Dictionary.{table_of, table_in_row, in_dictionary, dictionary_key, has_name_form}
+use Rattle.odb_model.specs.Binding.{binding_refusal, refuse_if}
+use Rattle.odb_model.specs.Fitting.{lacks_value, row_refusal}
+use Rattle.odb_model.specs.Where.{tests_of, range_of}
+use Rattle.odb_model.specs.Truth.{matches}
+use Rattle.odb_model.specs.Meaning.{meaning, refused_or, selected, updated, deleted, done, executed, on_table, values_of, kept_rows, put_of, writes_of, with_write, duplicate_refusal, tuples_refusal}
+use Rattle.odb_model.specs.Reads.{IsLawful, reads, reads_on, table_reads, unless_refused, dictionary_row, point, full_keys}
 use Rattle.odb_model.proofs.Replay.{get-changed_at, part_in-same}
-use Rattle.odb_model.proofs.Parts.{filter-map, rows_of-part}
+use Rattle.odb_model.proofs.Parts.{rows_of-part}
+use Rattle.odb_model.proofs.Covering.{and_true, both_true, filter_passes, inside}
+use Rattle.odb_model.proofs.Keyed.{IsPlaced, table-placed, value_at-in_columns}
 
-and_true : (a b : Bool) → (a && b) ≡ true → (a ≡ true) × (b ≡ true)
-and_true true b e = (refl, e)
-and_true false b e = cc
-
-or_left : (a b : Bool) → a ≡ true → (a || b) ≡ true
+pub or_left : (a b : Bool) → a ≡ true → (a || b) ≡ true
 or_left true b e = refl
 or_left false b e = cc
 
-or_right : (a b : Bool) → b ≡ true → (a || b) ≡ true
+pub or_right : (a b : Bool) → b ≡ true → (a || b) ≡ true
 or_right true b e = refl
 or_right false b e = e
 
--- a comparison holds by its sides
-pub truth_of-test : (columns : List Column) (values : List Value) (op : Compare) (left right : Operand)
-    → truth_of columns values (Test op left right) ≡ compared op (operand_value columns values left) (operand_value columns values right)
-truth_of-test columns values op left right =
-    ap (fold-Predicate Truth (truth_step columns values)) (sym (rolls-Test op left right)) ∙ fold-roll-Predicate Truth (truth_step columns values) (Predicate-F.Test op left right)
-
--- the values of a row, in column order
-abbrev laid : TableKey × List Value → List Value
-laid e = in_columns kv.columns e.0.key e.1
-
--- what is greater than a value lies beyond it
-greater : (o : Ordering) → is_true (truth_if (holds Gt o)) ≡ true → is_lt (ordering_reverse o) ≡ true
-greater Less e = cc
-greater Equal e = cc
-greater Greater e = refl
-
-greater_beyond : (x v : Value) (a b : Bool) → is_true (if a then Unknown else if b then Unknown else truth_if (holds Gt (value_cmp x v))) ≡ true → is_lt (value_cmp v x) ≡ true
-greater_beyond x v true b e = cc
-greater_beyond x v false true e = cc
-greater_beyond x v false false e = ap is_lt (value_cmp_total.antisymm v x) ∙ greater (value_cmp x v) e
-
--- a key whose first value is greater than a value lies beyond it; a key without a value doesn't compare
-key_beyond : (key : List Value) (v : Value) → is_true (compared Gt (unwrap_or (slice_get key 0) Null) v) ≡ true → passes_low (Beyond v) key ≡ true
-key_beyond [] v e = cc
-key_beyond (x ∷ key) v e = greater_beyond x v (is_null x) (is_null v) e
-
-both_true : (a b : Bool) → a ≡ true → b ≡ true → (a && b) ≡ true
-both_true true b p q = q
-both_true false b p q = cc
-
-same_number : (n : ℕ) → (n == n) ≡ true
-same_number n = eq-eqb n n refl
-
-with_true : (b : Bool) → b ≡ true → (b && true) ≡ true
-with_true true e = refl
-with_true false e = cc
-
--- the range of a comparison that leaves what lies beyond a value, where it is of the leading column and a value
-abbrev beyond_or_whole : Bool → Value → Range
-beyond_or_whole b v = if b then record { table = 5; prefix = []; low = Beyond v; high = Free } else whole kv
-
-module _ (at : TableKey) (row : List Value) where
-  -- the whole table covers every row
-  whole_covers : (keep : Bool) → ((5 == at.table) && keep) ≡ true → is_in (whole kv) at ≡ true
-  whole_covers keep e = with_true (5 == at.table) (and_true (5 == at.table) keep e).0
-
-  column_covers : (v : Value) (k w n : Bool)
-      → ((5 == at.table) && is_true (compared Gt (if k then unwrap_or (slice_get at.key 0) Null else if w then unwrap_or (slice_get row 0) Null else Null) v)) ≡ true
-      → is_in (beyond_or_whole ((if k then true else if w then false else false) && not n) v) at ≡ true
-  column_covers v true w false e =
-      let parts = and_true (5 == at.table) _ e in
-      both_true (5 == at.table) _ parts.0 (with_true _ (key_beyond at.key v parts.1))
-  column_covers v true w true e = whole_covers _ e
-  column_covers v false true n e = whole_covers _ e
-  column_covers v false false n e = whole_covers _ e
-
-  covers : (f : Option Predicate) → ((5 == at.table) && matches kv.columns f (in_columns kv.columns at.key row)) ≡ true → is_in (range_of kv f) at ≡ true
-  covers None e = whole_covers true e
-  covers (Some (Test Gt (ColumnOf name) (Literal v))) e =
-      let values = in_columns kv.columns at.key row in
-      column_covers v (is_named name (codes "K")) (is_named name (codes "V")) (is_null v)
-      (subst (λ (t : Truth). ((5 == at.table) && is_true t) ≡ true) (truth_of-test kv.columns values Gt (ColumnOf name) (Literal v)) e)
-  covers (Some (Test Gt (ColumnOf name) (ColumnOf other))) e = whole_covers _ e
-  covers (Some (Test Gt (Literal u) right)) e = whole_covers _ e
-  covers (Some (Test Eq left right)) e = whole_covers _ e
-  covers (Some (Test Ne left right)) e = whole_covers _ e
-  covers (Some (Test Lt left right)) e = whole_covers _ e
-  covers (Some (Test Le left right)) e = whole_covers _ e
-  covers (Some (Test Ge left right)) e = whole_covers _ e
-  covers (Some (IsNull name negated)) e = whole_covers _ e
-  covers (Some (Not' p a)) e = whole_covers _ e
-  covers (Some (And' p a q b)) e = whole_covers _ e
-  covers (Some (Or' p a q b)) e = whole_covers _ e
-
--- the rows that a WHERE keeps are among those of its range
-pub matching_rows-part : (f : Option Predicate) (s : State) → matching_rows kv f s
-    ≡ map laid (filter (λ e. (5 == e.0.table) && matches kv.columns f (laid e)) (entries (part_in (range_of kv f) s)))
-matching_rows-part f s = filter-map laid (matches kv.columns f) (rows_of 5 s)
-    ∙ ap (map laid) (rows_of-part 5 (range_of kv f) (λ e. matches kv.columns f (laid e)) (λ e. covers e.0 e.1 f) s)
+or_false : (a b : Bool) → (a || b) ≡ false → a ≡ false
+or_false true b e = cc
+or_false false b e = refl
 
 -- the states are alike in a range
 abbrev pub AlikeIn : Range → State → State → Type 0
@@ -147,93 +61,132 @@ AgreeOn-cons r rs s t here more q inside =
       | false ↦ λ e i. more q i
     ] refl inside
 
-matching_rows-same : (f : Option Predicate) (s t : State) → AlikeIn (range_of kv f) s t → matching_rows kv f s ≡ matching_rows kv f t
-matching_rows-same f s t same = matching_rows-part f s
-    ∙ ap (λ part. map laid (filter (λ e. (5 == e.0.table) && matches kv.columns f (laid e)) (entries part))) (part_in-same (range_of kv f) s t same)
-    ∙ sym (matching_rows-part f t)
-
-selected-same : (b : Bool) (what : What) (f : Option Predicate) (s t : State)
-    → AgreeOn (where_range (if b then Some kv else None) f) s t → selected (if b then Some kv else None) what f s ≡ selected (if b then Some kv else None) what f t
-selected-same true what f s t same =
-    ap (λ rows. record { reply = projected kv.columns what rows; writes = [] }) (matching_rows-same f s t (AgreeOn-head (range_of kv f) [] s t same))
-selected-same false what f s t same = refl
+-- a change keeps two states alike where they were
+pub get-changed-same : (s t : State) (at : TableKey) (row : Option (List Value)) (q : TableKey) → get s q ≡ get t q → get (changed s at row) q ≡ get (changed t at row) q
+get-changed-same s t at row q same =
+    get-changed_at s at row q ∙ ap (cond (eq_by_cmp table_key_cmp q at) row) same ∙ sym (get-changed_at t at row q)
 
 -- each value ties with itself, so a key starts with itself
 ties_itself : (key : List Value) → pointwise (eq_by_cmp value_cmp) key key ≡ true
 ties_itself [] = refl
 ties_itself (x ∷ key) = both_true (eq_by_cmp value_cmp x x) _ (ap is_eq (tied_itself value_cmp_total x)) (ties_itself key)
 
-in_point : (t : Table) (values : List Value) → t.number ≡ 5 → is_in (point_of t values) (table_key_of (put_of t values)) ≡ true
-in_point t values e =
-    both_true (t.number == t.number) _ (same_number t.number)
-    (with_true _ (with_true _ (ap (pointwise (eq_by_cmp value_cmp) (key_of t.columns values)) (take-length (key_of t.columns values)) ∙ ties_itself (key_of t.columns values))))
+-- a key is in its point
+pub in_point : (table : ℕ) (key : List Value) → is_in (point table key) (record { table = table; key = key }) ≡ true
+in_point table key =
+    both_true (table == table) _ (eq-eqb table table refl)
+    (both_true _ true (both_true _ true (ap (pointwise (eq_by_cmp value_cmp) key) (take-length key) ∙ ties_itself key) refl) refl)
 
--- a change keeps two states alike where they were
-pub get-changed-same : (s t : State) (at : TableKey) (row : Option (List Value)) (q : TableKey) → get s q ≡ get t q → get (changed s at row) q ≡ get (changed t at row) q
-get-changed-same s t at row q same =
-    get-changed_at s at row q ∙ ap (cond (eq_by_cmp table_key_cmp q at) row) same ∙ sym (get-changed_at t at row q)
+-- states that agree on the dictionary's row of a table have the same table of that name
+pub table_of-same : (name : List ℕ) (s t : State) → AlikeIn (dictionary_row name) s t → table_of s name ≡ table_of t name
+table_of-same name s t same =
+    ap (λ o. cond (is_named name (codes "KV")) (Some kv) (cond (has_name_form name) (option_and_then table_in_row o) None))
+    (same (in_dictionary name) (in_point 6 (dictionary_key name)))
 
-has_duplicate-same : (tuples : List (List Value)) (s t : State) → AgreeOn (map (point_of kv) tuples) s t → has_duplicate s (map (put_of kv) tuples) ≡ has_duplicate t (map (put_of kv) tuples)
-has_duplicate-same [] s t same = refl
-has_duplicate-same (values ∷ tuples) s t same =
-    let w : Write = put_of kv values in
-    let here : get s (table_key_of w) ≡ get t (table_key_of w) = AgreeOn-head (point_of kv values) (map (point_of kv) tuples) s t same (table_key_of w) (in_point kv values refl) in
-    ap (λ o. is_some o || has_duplicate (changed s (table_key_of w) w.row) (map (put_of kv) tuples)) here
-    ∙ ap (λ b. is_some (get t (table_key_of w)) || b) (has_duplicate-same tuples (changed s (table_key_of w) w.row) (changed t (table_key_of w) w.row)
-    (λ q inside. get-changed-same s t (table_key_of w) w.row q (AgreeOn-tail (point_of kv values) (map (point_of kv) tuples) s t same q inside)))
+module _ (t : Table) (keyed : IsPlaced t) where
+  -- every row at which a WHERE is True has its key in the range of the WHERE
+  pub covers : (f : Option Predicate) (e : TableKey × List Value) → ((t.number == e.0.table) && matches t.columns f (values_of t e)) ≡ true → is_in (range_of t f) e.0 ≡ true
+  covers f e kept =
+      let parts = and_true (t.number == e.0.table) (matches t.columns f (values_of t e)) kept in
+      both_true (t.number == e.0.table) _ parts.0
+      (inside (values_of t e) (tests_of t.columns f) t.key e.0.key (filter_passes (values_of t e) t.columns f parts.1) (value_at-in_columns t keyed e.0.key e.1))
 
-inserted-same : (b : Bool) (tuples : List (List Value)) (s t : State) (written : List TableKey) → AgreeOn (points_of (if b then Some kv else None) tuples) s t
-    → inserted (if b then Some kv else None) tuples s written ≡ inserted (if b then Some kv else None) tuples t written
-inserted-same true tuples s t written same =
-    let ws : List Write = map (put_of kv) tuples in
-    ap (λ d. if d then refused Duplicate else if nat_lt most_writes (different (written ++ map table_key_of ws)) then refused TooManyWrites else record { reply = Done (length ws); writes = ws })
-    (has_duplicate-same tuples s t same)
-inserted-same false tuples s t written same = refl
+  kept_rows-same : (f : Option Predicate) (s u : State) → AlikeIn (range_of t f) s u → kept_rows t f s ≡ kept_rows t f u
+  kept_rows-same f s u same =
+      let keep : TableKey × List Value → Bool = λ e. matches t.columns f (values_of t e) in
+      rows_of-part t.number (range_of t f) keep (covers f) s
+      ∙ ap (λ part. filter (λ e. (t.number == e.0.table) && keep e) (entries part)) (part_in-same (range_of t f) s u same)
+      ∙ sym (rows_of-part t.number (range_of t f) keep (covers f) u)
 
--- the ranges that a statement reads don't depend on the rows
-pub reads-same : (st : Statement) (s t : State) → reads st s ≡ reads st t
-reads-same Start s t = refl
-reads-same Commit s t = refl
-reads-same (Select what table f) s t = refl
-reads-same (Insert table tuples) s t = refl
-reads-same Rollback s t = refl
-reads-same (Update table sets f) s t = refl
-reads-same (Delete table f) s t = refl
-reads-same (CreateDatabank name) s t = refl
-reads-same (CreateTable name columns key bank) s t = refl
-reads-same (DropTable name) s t = refl
-reads-same (CreateShadow name bank) s t = refl
-reads-same (ShadowOnline name) s t = refl
-reads-same (ShadowOffline name) s t = refl
-reads-same (ShadowMaster name) s t = refl
-reads-same (DropShadow name) s t = refl
-reads-same (CreateBackup name bank) s t = refl
-reads-same (BackupReady name) s t = refl
-reads-same (DropBackup name) s t = refl
-reads-same (Restore bank name) s t = refl
+-- what isn't refused passes each test
+pub none_refused : (b : Bool) (r : Reply) (o : Option Reply) → cond b (Some r) o ≡ None → (b ≡ false) × (o ≡ None)
+none_refused true r o e = cc
+none_refused false r o e = (refl, e)
 
-pub meaning-same : (st : Statement) (s t : State) (written : List TableKey) → AgreeOn (reads st s) s t → meaning st s written ≡ meaning st t written
-meaning-same Start s t written same = refl
-meaning-same Commit s t written same = refl
-meaning-same (Select what table f) s t written same =
-    selected-same (is_named table (codes "KV")) what f s t (AgreeOn-tail (dictionary_row table) (where_range (table_of s table) f) s t same)
-meaning-same (Insert table tuples) s t written same =
-    inserted-same (is_named table (codes "KV")) tuples s t written (AgreeOn-tail (dictionary_row table) (points_of (table_of s table) tuples) s t same)
-meaning-same Rollback s t written same = refl
-meaning-same (Update table sets f) s t written same = refl
-meaning-same (Delete table f) s t written same = refl
-meaning-same (CreateDatabank name) s t written same = refl
-meaning-same (CreateTable name columns key bank) s t written same = refl
-meaning-same (DropTable name) s t written same = refl
-meaning-same (CreateShadow name bank) s t written same = refl
-meaning-same (ShadowOnline name) s t written same = refl
-meaning-same (ShadowOffline name) s t written same = refl
-meaning-same (ShadowMaster name) s t written same = refl
-meaning-same (DropShadow name) s t written same = refl
-meaning-same (CreateBackup name bank) s t written same = refl
-meaning-same (BackupReady name) s t written same = refl
-meaning-same (DropBackup name) s t written same = refl
-meaning-same (Restore bank name) s t written same = refl
+-- a row that fits has no Null in its key
+pub fits_full : (format : ℕ) (t : Table) (key values : List Value) → row_refusal format t key values ≡ None → list_any is_null key ≡ false
+fits_full format t key values e = or_false _ _ (none_refused (lacks_value t key values) NullNotAllowed _ e).0
+
+module _ (format : ℕ) (t : Table) where
+  -- the points of tuples, by the keys that they have
+  abbrev points : List (List Value) → List Range
+  points keys = map (point t.number) keys
+
+  tuples_refusal-same : (tuples : List (List Value)) (s u : State) → AgreeOn (points (full_keys t tuples)) s u → tuples_refusal format t s tuples ≡ tuples_refusal format t u tuples
+  tuples_refusal-same [] s u same = refl
+  tuples_refusal-same (values ∷ tuples) s u same =
+      let w : Write = put_of t values in
+      let key : List Value = key_of t values in
+      elim (row_refusal format t key values) as (λ o. row_refusal format t key values ≡ o → option_or o (option_or (duplicate_refusal s w) (tuples_refusal format t (with_write s w) tuples))
+      ≡ option_or o (option_or (duplicate_refusal u w) (tuples_refusal format t (with_write u w) tuples))) [
+        | Some r ↦ λ e. refl
+        | None ↦ λ e.
+            let agree : AgreeOn (point t.number key ∷ points (full_keys t tuples)) s u =
+            subst (λ (b : Bool). AgreeOn (points (cond (not b) (key ∷ full_keys t tuples) (full_keys t tuples))) s u) (fits_full format t key values e) same in
+            let here : get s (table_key_of w) ≡ get u (table_key_of w) = AgreeOn-head (point t.number key) (points (full_keys t tuples)) s u agree (table_key_of w) (in_point t.number key) in
+            let rest : AgreeOn (points (full_keys t tuples)) (with_write s w) (with_write u w) =
+            λ q inside. get-changed-same s u (table_key_of w) w.row q (AgreeOn-tail (point t.number key) (points (full_keys t tuples)) s u agree q inside) in
+            ap (λ o. option_or (refuse_if (is_some o) Duplicate) (tuples_refusal format t (with_write s w) tuples)) here
+            ∙ ap (option_or (duplicate_refusal u w)) (tuples_refusal-same tuples (with_write s w) (with_write u w) rest)
+      ] refl
+
+module _ (t : Table) (keyed : IsPlaced t) (written : List TableKey) (format : ℕ) where
+  executed-same : (st : Statement) (s u : State) → AgreeOn (table_reads t st) s u → executed t st s written format ≡ executed t st u written format
+  executed-same (Select what table f) s u same =
+      ap (λ rows. selected t what (map (values_of t) rows)) (kept_rows-same t keyed f s u (AgreeOn-head (range_of t f) [] s u same))
+  executed-same (Insert table tuples) s u same =
+      ap (λ o. refused_or o (done written (length tuples) (flat_map (writes_of t) tuples))) (tuples_refusal-same format t tuples s u same)
+  executed-same (Update table sets f) s u same =
+      ap (λ rows. updated t sets rows written format) (kept_rows-same t keyed f s u (AgreeOn-head (range_of t f) [] s u same))
+  executed-same (Delete table f) s u same =
+      ap (λ rows. deleted t rows written) (kept_rows-same t keyed f s u (AgreeOn-head (range_of t f) [] s u same))
+  executed-same other s u same = refl
+
+  bound-same : (st : Statement) (s u : State) (o : Option Reply) → AgreeOn (unless_refused o (table_reads t st)) s u → refused_or o (executed t st s written format) ≡ refused_or o (executed t st u written format)
+  bound-same st s u None same = executed-same st s u same
+  bound-same st s u (Some reply) same = refl
+
+on_table-same : (o : Option Table) → ((t : Table) → o ≡ Some t → IsPlaced t) → (st : Statement) (s u : State) (written : List TableKey) (format : ℕ)
+    → AgreeOn (reads_on o st) s u → on_table o st s written format ≡ on_table o st u written format
+on_table-same None keyed st s u written format same = refl
+on_table-same (Some t) keyed st s u written format same = bound-same t (keyed t refl) written format st s u (binding_refusal t st) same
+
+module _ (s u : State) (written : List TableKey) (format : ℕ) where
+  -- a statement on rows of a table
+  named-same : (name : List ℕ) (st : Statement) → AgreeOn (dictionary_row name ∷ reads_on (table_of s name) st) s u
+      → on_table (table_of s name) st s written format ≡ on_table (table_of u name) st u written format
+  named-same name st same =
+      on_table-same (table_of s name) (table-placed s name) st s u written format (AgreeOn-tail (dictionary_row name) (reads_on (table_of s name) st) s u same)
+      ∙ ap (λ o. on_table o st u written format) (table_of-same name s u (AgreeOn-head (dictionary_row name) (reads_on (table_of s name) st) s u same))
+
+  meant-same : (st : Statement) → AgreeOn (reads st s) s u → meaning st s written format ≡ meaning st u written format
+  meant-same (Select what table f) same = named-same table (Select what table f) same
+  meant-same (Insert table tuples) same = named-same table (Insert table tuples) same
+  meant-same (Update table sets f) same = named-same table (Update table sets f) same
+  meant-same (Delete table f) same = named-same table (Delete table f) same
+  meant-same Start same = refl
+  meant-same Commit same = refl
+  meant-same Rollback same = refl
+  meant-same other same = refl
+
+  named_reads-same : (name : List ℕ) (st : Statement) → AgreeOn (dictionary_row name ∷ reads_on (table_of s name) st) s u
+      → dictionary_row name ∷ reads_on (table_of s name) st ≡ dictionary_row name ∷ reads_on (table_of u name) st
+  named_reads-same name st same =
+      ap (λ o. dictionary_row name ∷ reads_on o st) (table_of-same name s u (AgreeOn-head (dictionary_row name) (reads_on (table_of s name) st) s u same))
+
+  read-same : (st : Statement) → AgreeOn (reads st s) s u → reads st s ≡ reads st u
+  read-same (Select what table f) same = named_reads-same table (Select what table f) same
+  read-same (Insert table tuples) same = named_reads-same table (Insert table tuples) same
+  read-same (Update table sets f) same = named_reads-same table (Update table sets f) same
+  read-same (Delete table f) same = named_reads-same table (Delete table f) same
+  read-same other same = refl
+
+pub meaning-same : (st : Statement) (s t : State) (written : List TableKey) (format : ℕ) → IsLawful s → IsLawful t → AgreeOn (reads st s) s t → meaning st s written format ≡ meaning st t written format
+meaning-same st s t written format first second same = meant-same s t written format st same
+
+-- they give it the same ranges too
+pub reads-same : (st : Statement) (s t : State) → IsLawful s → IsLawful t → AgreeOn (reads st s) s t → reads st s ≡ reads st t
+reads-same st s t first second same = read-same s t [] 1 st same
 
 -- the same writes keep states alike
 pub get-after_writes-same : (s t : State) (ws : List Write) (q : TableKey) → get s q ≡ get t q → get (after_writes s ws) q ≡ get (after_writes t ws) q

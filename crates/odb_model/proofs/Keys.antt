@@ -92,7 +92,7 @@ is_less Equal h = absurd h
 is_less Greater h = absurd h
 
 module _ {X : Type 0} where
-  all_above : (x : TableKey) (es : List (TableKey × X)) → T (below_all table_key_cmp x es) → AllByRecursion (λ y. table_key_cmp x y ≡ Less) (map (λ e. e.0) es)
+  pub all_above : (x : TableKey) (es : List (TableKey × X)) → T (below_all table_key_cmp x es) → AllByRecursion (λ y. table_key_cmp x y ≡ Less) (map (λ e. e.0) es)
   all_above x [] h = tt
   all_above x (e ∷ es) h = let parts = both_T _ _ h in (is_less (table_key_cmp x e.0) parts.0, all_above x es parts.1)
 

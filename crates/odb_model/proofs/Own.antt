@@ -8,18 +8,18 @@ use Rattle.odb_model.specs.declared.entry.Entry.{Entry}
 use Rattle.odb_model.specs.declared.outcome.Read.{Read}
 use Rattle.odb_model.specs.declared.statement.Statement.{Statement}
 use Rattle.odb_model.specs.State.{after_writes, replay, AgreeOn, writes_in, IsNumberedFrom, IsHistory}
-use Rattle.odb_model.specs.Meaning.{Meaning, meaning}
-use Rattle.odb_model.specs.Reads.{reads}
-use Rattle.odb_model.specs.Transaction.{Executed, statements_of, replies_of, table_keys, open_meaning, write_set_from, alone_replies, alone_writes, reads_of, overwrites, first_conflict}
+use Rattle.odb_model.specs.Meaning.{Meaning}
+use Rattle.odb_model.specs.Reads.{reads, IsLawful}
+use Rattle.odb_model.specs.Transaction.{Executed, statements_of, replies_of, table_keys, meaning_over, open_state, open_meaning, write_set_with, write_set_from, alone_replies, alone_writes, read_at, reads_from, overwrites, first_conflict}
 use Rattle.odb_model.specs.Serial.{HasOpenReplies}
 use Rattle.odb_model.proofs.Replay.{any_writes_in, or_false, get-replay_take}
-use Rattle.odb_model.proofs.Agree.{AgreeOn-cons, AgreeOn-after_writes, meaning-same, reads-same}
+use Rattle.odb_model.proofs.Agree.{AgreeOn-cons, AgreeOn-after_writes, meaning-same}
 
 none_or : {A : Type 0} (b : Bool) (x : A) (rest : Option A) → cond b (Some x) rest ≡ None → (b ≡ false) × (rest ≡ None)
 none_or true x rest e = cc
 none_or false x rest e = (refl, e)
 
-false_or : (a b : Bool) → a ≡ false → b ≡ false → (a || b) ≡ false
+pub false_or : (a b : Bool) → a ≡ false → b ≡ false → (a || b) ≡ false
 false_or true b p q = cc
 false_or false b p q = q
 
@@ -58,7 +58,7 @@ never (e ∷ h) = never h
 abbrev overwrites_one : Read → Entry → Bool
 overwrites_one r e = nat_lt r.number e.number && writes_in r.range e.writes
 
-split_reads : (xs ys : List Read) (h : List Entry) → list_any (overwrites (xs ++ ys)) h ≡ false → (list_any (overwrites xs) h ≡ false) × (list_any (overwrites ys) h ≡ false)
+pub split_reads : (xs ys : List Read) (h : List Entry) → list_any (overwrites (xs ++ ys)) h ≡ false → (list_any (overwrites xs) h ≡ false) × (list_any (overwrites ys) h ≡ false)
 split_reads [] ys h e = (never h, e)
 split_reads (x ∷ xs) ys h e =
     let parts = any_or (overwrites_one x) (overwrites (xs ++ ys)) h e in
@@ -89,7 +89,7 @@ later_none range n (suc m) k (x ∷ h) e numbered none =
     later_none range n m (k + 1) h next numbered.1 parts.1
 
 -- where nothing overwrites these ranges, the state then and the state now agree on them
-agree_then : (ranges : List Range) (n : ℕ) (h : List Entry) → IsHistory h
+pub agree_then : (ranges : List Range) (n : ℕ) (h : List Entry) → IsHistory h
     → list_any (overwrites (map (λ range. record { range = range; number = n }) ranges)) h ≡ false → AgreeOn ranges (replay (take n h)) (replay h)
 agree_then [] n h numbered none = λ q inside. cc
 agree_then (range ∷ ranges) n h numbered none =
@@ -99,28 +99,44 @@ agree_then (range ∷ ranges) n h numbered none =
     (agree_then ranges n h numbered parts.1)
 
 -- the statement means now what it meant then
-meaning_then : (st : Statement) (n : ℕ) (write_set : List Write) (h : List Entry) → IsHistory h
-    → list_any (overwrites (map (λ range. record { range = range; number = n }) (reads st (replay (take n h))))) h ≡ false
-    → open_meaning st n write_set h ≡ meaning st (after_writes (replay h) write_set) (table_keys write_set)
-meaning_then st n write_set h numbered none =
-    meaning-same st (after_writes (replay (take n h)) write_set) (after_writes (replay h) write_set) (table_keys write_set)
-    (subst (λ (ranges : List Range). AgreeOn ranges (after_writes (replay (take n h)) write_set) (after_writes (replay h) write_set)) (reads-same st (replay (take n h)) (after_writes (replay (take n h)) write_set))
-    (AgreeOn-after_writes (reads st (replay (take n h))) (replay (take n h)) (replay h) write_set (agree_then (reads st (replay (take n h))) n h numbered none)))
+meaning_then : (st : Statement) (n : ℕ) (write_set : List Write) (h : List Entry) (format : ℕ) → IsHistory h
+    → IsLawful (open_state n write_set h) → IsLawful (after_writes (replay h) write_set)
+    → list_any (overwrites (read_at n (reads st (open_state n write_set h)))) h ≡ false
+    → open_meaning st n write_set h format ≡ meaning_over st (replay h) write_set format
+meaning_then st n write_set h format numbered then now none =
+    let ranges : List Range = reads st (open_state n write_set h) in
+    meaning-same st (open_state n write_set h) (after_writes (replay h) write_set) (table_keys write_set) format then now
+    (AgreeOn-after_writes ranges (replay (take n h)) (replay h) write_set (agree_then ranges n h numbered none))
+
+-- the states on which a transaction's statements run, at their snapshots and at the history's end, are lawful
+pub RunsLawfully : List Entry → List Write → List Executed → ℕ → Type 0
+RunsLawfully h write_set [] format = Unit {0}
+RunsLawfully h write_set (a ∷ t) format =
+    IsLawful (open_state a.snapshot write_set h) × IsLawful (after_writes (replay h) write_set)
+    × RunsLawfully h (write_set_with h write_set a format) t format
+
+-- as all states are
+pub runs_lawfully : (h : List Entry) (write_set : List Write) (t : List Executed) (format : ℕ) → RunsLawfully h write_set t format
+unfolding RunsLawfully
+runs_lawfully h write_set [] format = tt
+runs_lawfully h write_set (a ∷ t) format = (tt, tt, runs_lawfully h (write_set_with h write_set a format) t format)
 
 -- what a transaction does alone at the end of a history that doesn't conflict with it
-pub record DoesAlone (h : List Entry) (write_set : List Write) (t : List Executed) : Type 0 where
-  pub replies : alone_replies (replay h) write_set (statements_of t) ≡ replies_of t
-  pub writes : alone_writes (replay h) write_set (statements_of t) ≡ write_set_from h write_set t
+pub record DoesAlone (h : List Entry) (write_set : List Write) (t : List Executed) (format : ℕ) : Type 0 where
+  pub replies : alone_replies (replay h) write_set (statements_of t) format ≡ replies_of t
+  pub writes : alone_writes (replay h) write_set (statements_of t) format ≡ write_set_from h write_set t format
 
-pub does_alone : (h : List Entry) (write_set : List Write) (t : List Executed) → IsHistory h → HasOpenReplies h write_set t → list_any (overwrites (reads_of h t)) h ≡ false → DoesAlone h write_set t
-does_alone h write_set [] numbered open_replies none = record { replies = refl; writes = refl }
-does_alone h write_set (a ∷ t) numbered open_replies none =
-    let parts = split_reads (map (λ range. record { range = range; number = a.snapshot }) (reads a.statement (replay (take a.snapshot h)))) (reads_of h t) h none in
-    let then : Meaning = open_meaning a.statement a.snapshot write_set h in
-    let same : then ≡ meaning a.statement (after_writes (replay h) write_set) (table_keys write_set) = meaning_then a.statement a.snapshot write_set h numbered parts.0 in
-    let more : DoesAlone h (write_set ++ then.writes) t = does_alone h (write_set ++ then.writes) t numbered open_replies.2 parts.1 in
+pub does_alone : (h : List Entry) (write_set : List Write) (t : List Executed) (format : ℕ) → IsHistory h → RunsLawfully h write_set t format → HasOpenReplies h write_set t format
+    → list_any (overwrites (reads_from h write_set t format)) h ≡ false → DoesAlone h write_set t format
+unfolding RunsLawfully
+does_alone h write_set [] format numbered lawful open_replies none = record { replies = refl; writes = refl }
+does_alone h write_set (a ∷ t) format numbered lawful open_replies none =
+    let parts = split_reads (read_at a.snapshot (reads a.statement (open_state a.snapshot write_set h))) (reads_from h (write_set_with h write_set a format) t format) h none in
+    let then : Meaning = open_meaning a.statement a.snapshot write_set h format in
+    let same : then ≡ meaning_over a.statement (replay h) write_set format = meaning_then a.statement a.snapshot write_set h format numbered lawful.0 lawful.1 parts.0 in
+    let more : DoesAlone h (write_set ++ then.writes) t format = does_alone h (write_set ++ then.writes) t format numbered lawful.2 open_replies.2 parts.1 in
     record {
-      replies = subst (λ (meant : Meaning). (meant.reply ∷ alone_replies (replay h) (write_set ++ meant.writes) (statements_of t)) ≡ (a.reply ∷ replies_of t)) same
-          (ap (λ r. r ∷ alone_replies (replay h) (write_set ++ then.writes) (statements_of t)) (sym open_replies.1) ∙ ap (λ rs. a.reply ∷ rs) more.replies);
-      writes = subst (λ (meant : Meaning). alone_writes (replay h) (write_set ++ meant.writes) (statements_of t) ≡ write_set_from h write_set (a ∷ t)) same more.writes;
+      replies = subst (λ (meant : Meaning). (meant.reply ∷ alone_replies (replay h) (write_set ++ meant.writes) (statements_of t) format) ≡ (a.reply ∷ replies_of t)) same
+          (ap (λ r. r ∷ alone_replies (replay h) (write_set ++ then.writes) (statements_of t) format) (sym open_replies.1) ∙ ap (λ rs. a.reply ∷ rs) more.replies);
+      writes = subst (λ (meant : Meaning). alone_writes (replay h) (write_set ++ meant.writes) (statements_of t) format ≡ write_set_from h write_set (a ∷ t) format) same more.writes;
     }

@@ -1,23 +1,26 @@
 -- A script played: each line with its answer, and what is said.
-use Rattle.std.specs.Prelude.{◌≡◌, ◌⊎◌, ◌≢◌, ℕ, ◌+◌, ◌-◌, ◌^◌, ◌≤◌, ◌==◌, Bool, true, false, List, [], ◌∷◌, ◌++◌, flat_map, filter, length, take, MatchOption}
+use Rattle.std.specs.Prelude.{◌≡◌, ◌⊎◌, ◌≢◌, ℕ, ◌+◌, ◌-◌, ◌^◌, ◌≤◌, ◌==◌, Bool, true, false, List, [], ◌∷◌, ◌++◌, flat_map, filter, length, take}
 use Rattle.odb_model.specs.declared.event.Event.{Event}
 use Rattle.odb_model.specs.declared.reply.Head.{Head}
-use Rattle.odb_model.specs.declared.reply.Head.TheVariants.{Session}
+use Rattle.odb_model.specs.declared.reply.Head.TheVariants.{Session as OfSession}
 use Rattle.odb_model.specs.declared.reply.Reply.{Reply}
 use Rattle.odb_model.specs.declared.reply.Reply.TheVariants.{Committed, Ended, InDoubt, Fault}
 use Rattle.odb_model.specs.declared.status.Status.{Status}
 use Rattle.odb_model.specs.declared.status.Status.TheVariants.{Done, Usage, ReadFault, WriteFault, FileFault, NoDatabase, Exists, Damaged, NotHeld, InputTooLong, NoMemory}
+use Rattle.odb_model.specs.declared.entry.Entry.{Entry}
+use Rattle.odb_model.specs.Session.{Session, Idle, Working}
+use Rattle.odb_model.specs.Book.{Seen}
 use Rattle.odb_model.specs.Machine.{Machine, Step}
 use Rattle.odb_model.specs.Print.{reply_text}
 use Rattle.odb_model.specs.Script.{IsRequest, IsRefused, head_of, ended_lines, all_lines}
 use Rattle.odb_model.specs.Serial.{IsSerial}
 
--- one line answered: whom the reply names, the reply, the files whose counts rose in the step, and
--- the machine after it
+-- one line answered: whom the reply names, the reply, what was seen outside in the step, and the
+-- machine after it
 pub record Answer : Type 0 where
   pub head : Head
   pub reply : Reply
-  pub risen : ℕ → Bool
+  pub seen : Seen
   pub after : Machine
 
 -- the line is refused and the machine stays, or it asks for a step of the machine
@@ -25,7 +28,7 @@ abbrev pub IsAnswer : List ℕ → Machine → Answer → Type 0
 IsAnswer line m answer =
     (IsRefused line answer.head answer.reply × (answer.after ≡ m))
     ⊎ ((event : Event) × IsRequest line event × (answer.head ≡ head_of event)
-    × Step m event answer.risen answer.reply answer.after)
+    × Step m event answer.seen answer.reply answer.after)
 
 -- the lines answered one after another
 abbrev pub IsRun : Machine → List (List ℕ) → List Answer → Type 0
@@ -35,13 +38,18 @@ IsRun m (line ∷ lines) (answer ∷ answers) =
 IsRun m [] (answer ∷ answers) = ⊥
 IsRun m (line ∷ lines) [] = ⊥
 
+-- the transaction of a session, if it is in one, is serial after the first p entries
+abbrev pub IsSerialAt : Session → ℕ → List Entry → ℕ → Type 0
+IsSerialAt Idle p h format = Unit {0}
+IsSerialAt (Working t) p h format = IsSerial t p h format
+
 -- a transaction that the reply commits is serial at its place: at k - 1 for COMMITTED k, at p for
 -- ENDED p
 abbrev pub CommitsSerially : Machine → Head → Reply → Machine → Type 0
-CommitsSerially m (Session s) (Committed k) after =
-    MatchOption (m.sessions s) (Unit {0}) (λ t. IsSerial t (k - 1) after.history)
-CommitsSerially m (Session s) (Ended p) after =
-    MatchOption (m.sessions s) (Unit {0}) (λ t. IsSerial t p after.history)
+CommitsSerially m (OfSession s) (Committed k) after =
+    IsSerialAt (m.sessions s) (k - 1) after.history m.format
+CommitsSerially m (OfSession s) (Ended p) after =
+    IsSerialAt (m.sessions s) p after.history m.format
 CommitsSerially m head reply after = Unit {0}
 
 abbrev pub AllSerial : Machine → List Answer → Type 0
@@ -61,7 +69,7 @@ said_by answers = flat_map text_of_answer answers
 abbrev pub RiseOnly : (ℕ → ℕ → Type 0) → List Answer → Type 0
 RiseOnly rose [] = Unit {0}
 RiseOnly rose (answer ∷ answers) =
-    ((file : ℕ) → answer.risen file ≡ true → rose file 1) × RiseOnly rose answers
+    ((file : ℕ) → answer.seen.rose file ≡ true → rose file 1) × RiseOnly rose answers
 
 -- the replies that tell of a fault of a file: FAULT with its number, and of TRANSDB, file 0, also
 -- INDOUBT

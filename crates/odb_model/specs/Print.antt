@@ -6,7 +6,7 @@ use Rattle.odb_model.specs.declared.numbers.TheConstants.{LF}
 use Rattle.odb_model.specs.declared.reply.Head.{Head}
 use Rattle.odb_model.specs.declared.reply.Head.TheVariants.{Session, Control, Unknown}
 use Rattle.odb_model.specs.declared.reply.Reply.{Reply}
-use Rattle.odb_model.specs.declared.reply.Reply.TheVariants.{Okay, Rows, Done, Committed, Ended, InDoubt, Character, Text as TextReply, Number, Syntax, End, Long, Line, NoSession, NotYet, NoTransaction, InTransaction, Duplicate, TooManyWrites, Halted, Conflict, Full, Fault, Memory}
+use Rattle.odb_model.specs.declared.reply.Reply.TheVariants.{Okay, Rows, Done, Committed, Ended, InDoubt, Character, Text as TextReply, Number, Syntax, End, Long, Line, NoSession, NotYet, NoTransaction, InTransaction, NoTable, NoColumn, KindMismatch, KeyColumn, ColumnCount, Duplicate, NullNotAllowed, TooLong, KeyTooWide, RowTooWide, TooManyWrites, Overflow, Halted, Conflict, Full, Fault, Memory}
 use Rattle.odb_model.specs.Canonical.{value_text}
 
 abbrev pub head_text : Head → List ℕ
@@ -50,8 +50,18 @@ reply_text head NoSession = refused_line head (codes "NOSESSION")
 reply_text head NotYet = refused_line head (codes "NOTYET")
 reply_text head NoTransaction = refused_line head (codes "NOTRANSACTION")
 reply_text head InTransaction = refused_line head (codes "INTRANSACTION")
+reply_text head NoTable = refused_line head (codes "NOTABLE")
+reply_text head NoColumn = refused_line head (codes "NOCOLUMN")
+reply_text head KindMismatch = refused_line head (codes "KINDMISMATCH")
+reply_text head KeyColumn = refused_line head (codes "KEYCOLUMN")
+reply_text head ColumnCount = refused_line head (codes "COLUMNCOUNT")
 reply_text head Duplicate = refused_line head (codes "DUPLICATE")
+reply_text head NullNotAllowed = refused_line head (codes "NULLNOTALLOWED")
+reply_text head TooLong = refused_line head (codes "TOOLONG")
+reply_text head KeyTooWide = refused_line head (codes "KEYTOOWIDE")
+reply_text head RowTooWide = refused_line head (codes "ROWTOOWIDE")
 reply_text head TooManyWrites = refused_line head (codes "TOOMANYWRITES")
+reply_text head Overflow = refused_line head (codes "OVERFLOW")
 reply_text head (Halted k) = refused_line head (codes "HALTED " ++ decimal k)
 reply_text head (Conflict j) = refused_line head (codes "CONFLICT " ++ decimal j)
 reply_text head (Full need room) =

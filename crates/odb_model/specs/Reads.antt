@@ -1,62 +1,63 @@
 -- Which ranges a statement reads, taken from its text and the dictionary alone.
-use Rattle.std.specs.Prelude.{ℕ, ◌==◌, Bool, false, not, ◌&&◌, List, [], ◌∷◌, map, Option, Some, None, pos, if◌then◌else◌}
+use Rattle.std.specs.Prelude.{ℕ, not, List, [], ◌∷◌, map, filter, Option, Some, None}
+use Rattle.std.specs.List.{list_any}
 use Rattle.odb_values.specs.declared.value.Value.{Value}
-use Rattle.odb_values.specs.declared.value.Value.TheVariants.{Int, Text}
-use Rattle.odb_values.specs.declared.edge.Edge.TheVariants.{Free, Beyond}
+use Rattle.odb_values.specs.declared.edge.Edge.TheVariants.{Free}
 use Rattle.odb_values.specs.declared.range.Range.{Range}
 use Rattle.odb_values.specs.Value.{is_null}
-use Rattle.odb_model.specs.declared.predicate.Compare.TheVariants.{Gt}
-use Rattle.odb_model.specs.declared.predicate.Operand.TheVariants.{Column as ColumnOf, Literal}
-use Rattle.odb_model.specs.declared.predicate.Predicate.{Predicate}
-use Rattle.odb_model.specs.declared.predicate.Predicate.TheVariants.{Test}
+use Rattle.odb_model.specs.declared.reply.Reply.{Reply}
 use Rattle.odb_model.specs.declared.statement.Statement.{Statement}
-use Rattle.odb_model.specs.declared.statement.Statement.TheVariants.{Start, Commit, Select, Insert}
+use Rattle.odb_model.specs.declared.statement.Statement.TheVariants.{Select, Insert, Update, Delete}
 use Rattle.odb_model.specs.State.{State}
-use Rattle.odb_model.specs.Table.{Column, Table, table_of, is_named, key_of}
+use Rattle.odb_model.specs.Table.{Table, key_of}
+use Rattle.odb_model.specs.Dictionary.{table_of, dictionary_key}
+use Rattle.odb_model.specs.Binding.{binding_refusal}
+use Rattle.odb_model.specs.Where.{range_of}
 
--- the row of the dictionary that tells of a table: the dictionary is table 6, and 2 is the kind of
--- a table's row
+-- What is asked of a state, so that a statement depends on the ranges that it reads alone. Nothing
+-- yet, so every state is lawful: once there are indexes, it will say that the keys of each index are
+-- those of its table's rows
+abbrev pub IsLawful : State → Type 0
+IsLawful s = Unit {0}
+
+-- a point: the range whose prefix is a whole key
+abbrev pub point : ℕ → List Value → Range
+point table key = record { table = table; prefix = key; low = Free; high = Free }
+
+-- the row of the dictionary that tells of a table
 abbrev pub dictionary_row : List ℕ → Range
-dictionary_row name =
-    record { table = 6; prefix = Int (pos 2) ∷ Text name ∷ []; low = Free; high = Free }
+dictionary_row name = point 6 (dictionary_key name)
 
-abbrev pub whole : Table → Range
-whole t = record { table = t.number; prefix = []; low = Free; high = Free }
+-- the keys of tuples, without those that hold Null
+abbrev pub full_keys : Table → List (List Value) → List (List Value)
+full_keys t tuples = filter (λ key. not (list_any is_null key)) (map (key_of t) tuples)
 
--- the range whose prefix is the whole key of a tuple
-abbrev pub point_of : Table → List Value → Range
-point_of t values =
-    record { table = t.number; prefix = key_of t.columns values; low = Free; high = Free }
+-- what a statement that binds reads of its table
+abbrev pub table_reads : Table → Statement → List Range
+table_reads t (Select what table filter_of) = range_of t filter_of ∷ []
+table_reads t (Insert table tuples) = map (point t.number) (full_keys t tuples)
+table_reads t (Update table sets filter_of) = range_of t filter_of ∷ []
+table_reads t (Delete table filter_of) = range_of t filter_of ∷ []
+table_reads t other = []
 
--- whether the first column of this name is the first of the primary key
-abbrev pub leads_key : List Column → List ℕ → Bool
-leads_key [] name = false
-leads_key (c ∷ columns) name =
-    if is_named name c.name then c.key_place == 1 else leads_key columns name
+abbrev pub unless_refused : Option Reply → List Range → List Range
+unless_refused None ranges = ranges
+unless_refused (Some reply) ranges = []
 
--- the range of a WHERE: what a comparison of the leading key column with a value leaves, else the
--- whole table
-abbrev pub range_of : Table → Option Predicate → Range
-range_of t (Some (Test Gt (ColumnOf name) (Literal v))) =
-    if leads_key t.columns name && not (is_null v)
-    then record { table = t.number; prefix = []; low = Beyond v; high = Free }
-    else whole t
-range_of t other = whole t
+abbrev pub reads_on : Option Table → Statement → List Range
+reads_on None st = []
+reads_on (Some t) st = unless_refused (binding_refusal t st) (table_reads t st)
 
-abbrev pub points_of : Option Table → List (List Value) → List Range
-points_of None tuples = []
-points_of (Some t) tuples = map (point_of t) tuples
-
-abbrev pub where_range : Option Table → Option Predicate → List Range
-where_range None filter_of = []
-where_range (Some t) filter_of = range_of t filter_of ∷ []
-
--- Each statement on rows reads the dictionary's row of its table; a SELECT the range of its WHERE,
--- an INSERT the point of each tuple. The others aren't built
+-- Each statement on rows reads the dictionary's row of its table, also where it is refused. Where it
+-- binds, a SELECT, UPDATE or DELETE reads the range of its WHERE, and an INSERT the point of each
+-- tuple's key that has no Null
 abbrev pub reads : Statement → State → List Range
-reads Start s = []
-reads Commit s = []
 reads (Select what table filter_of) s =
-    dictionary_row table ∷ where_range (table_of s table) filter_of
-reads (Insert table tuples) s = dictionary_row table ∷ points_of (table_of s table) tuples
+    dictionary_row table ∷ reads_on (table_of s table) (Select what table filter_of)
+reads (Insert table tuples) s =
+    dictionary_row table ∷ reads_on (table_of s table) (Insert table tuples)
+reads (Update table sets filter_of) s =
+    dictionary_row table ∷ reads_on (table_of s table) (Update table sets filter_of)
+reads (Delete table filter_of) s =
+    dictionary_row table ∷ reads_on (table_of s table) (Delete table filter_of)
 reads other s = []

@@ -1,9 +1,16 @@
 -- How many bytes writes, entries and records take where they are stored.
-use Rattle.std.specs.Prelude.{ℕ, ◌+◌, List, sum_by, Option, Some, None}
+use Rattle.std.specs.Prelude.{ℕ, ◌+◌, Bool, ◌==◌, nat_le, List, sum_by, Option, Some, None, if◌then◌else◌}
 use Rattle.odb_values.specs.declared.value.Value.{Value}
 use Rattle.odb_values.specs.Key.{width_of_all}
 use Rattle.odb_model.specs.declared.write.Write.{Write}
 use Rattle.odb_model.specs.declared.entry.Entry.{Entry}
+
+-- Whether a row fits, by the format of the database: in format 1 the images of its key and its row
+-- have at most 1,006 bytes together, in format 2 that of the row has at most 7,936
+abbrev pub row_fits : ℕ → List Value → List Value → Bool
+row_fits format key row =
+    if format == 2 then nat_le (width_of_all row) 7936
+    else nat_le (width_of_all key + width_of_all row) 1006
 
 -- the bytes of the images of a write's key and row together
 abbrev pub width_of_change : Option (List Value) → ℕ

@@ -8,6 +8,7 @@
 mod control;
 mod entry;
 mod event;
+mod intention;
 mod joint;
 mod keyword;
 mod laws;
@@ -26,8 +27,12 @@ mod write;
 pub use control::Control;
 pub use entry::{Entries, Entry};
 pub use event::Event;
+pub use intention::Intention;
 pub use keyword::Keyword;
-pub use laws::{agrees_on_reads, answers_alone, runs_serially, stays_storable};
+pub use laws::{
+    agrees_on_reads, answers_alone, covers_matches, intends_net, runs_serially, stays_storable,
+    tells_tables,
+};
 pub use numbers::{LF, SESSIONS};
 pub use outcome::{Outcome, Ranges, Read};
 pub use predicate::{Compare, Operand, Predicate};

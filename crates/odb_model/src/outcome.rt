@@ -1,7 +1,8 @@
 //! What a statement does, and what a transaction has read.
 use crate::{Reply, Writes};
-use odb_values::{Duplicate, Frozen, Range};
+use odb_values::{Duplicate, Edge, Frozen, Range};
 use std::alloc::{AllocError, Global};
+use std::default::MadeWith;
 
 /// Ranges that a statement read.
 pub type Ranges = Frozen<Range>;
@@ -37,5 +38,21 @@ impl Duplicate for Read {
             range: self.range.copy(alloc)?,
             number: self.number,
         })
+    }
+}
+
+/// A blank, as a list with places inline keeps in those that aren't used: the whole of table 0,
+/// which is no table's number. It takes no memory.
+impl MadeWith<Global> for Read {
+    fn made_with(alloc: Global) -> Read {
+        Read {
+            range: Range {
+                table: 0,
+                prefix: Frozen::empty(alloc),
+                low: Edge::Free,
+                high: Edge::Free,
+            },
+            number: 0,
+        }
     }
 }

@@ -21,7 +21,7 @@ pub enum Reply {
     Okay,
     /// The rows of a SELECT.
     Rows(ValueRows),
-    /// How many rows an INSERT put.
+    /// How many rows an INSERT put, an UPDATE changed or a DELETE took away.
     Done(u64),
     /// COMMIT is done, and this is the number of its entry.
     Committed(u64),
@@ -53,11 +53,32 @@ pub enum Reply {
     NoTransaction,
     /// START wants no transaction, and the session is in one.
     InTransaction,
+    /// No table of the dictionary has the name. The statement changed nothing, as with each refusal
+    /// below up to TooManyWrites.
+    NoTable,
+    /// The table has no column of a name that the statement names.
+    NoColumn,
+    /// A number stands where a text is wanted, or a text where a number is.
+    KindMismatch,
+    /// The statement sets a column of the primary key.
+    KeyColumn,
+    /// A tuple has more or fewer values than the table has columns, or a column is set twice.
+    ColumnCount,
     /// A row with this key is there already. The statement changed nothing.
     Duplicate,
+    /// A column that takes no NULL would get one.
+    NullNotAllowed,
+    /// A text would have more characters than its column takes.
+    TooLong,
+    /// The image of a key would have more than 256 bytes.
+    KeyTooWide,
+    /// The images of a key and its row would have more bytes than fit together.
+    RowTooWide,
     /// The transaction would have written more than 4,096 different keys. The statement changed
     /// nothing.
     TooManyWrites,
+    /// A sum lies outside the numbers of 64 bits. The statement changed nothing.
+    Overflow,
     /// The entry of this number is in doubt. The transaction stands, and can't be committed before
     /// the files are opened again.
     Halted(u64),
@@ -94,8 +115,18 @@ impl Duplicate for Reply {
             Reply::NotYet => Ok(Reply::NotYet),
             Reply::NoTransaction => Ok(Reply::NoTransaction),
             Reply::InTransaction => Ok(Reply::InTransaction),
+            Reply::NoTable => Ok(Reply::NoTable),
+            Reply::NoColumn => Ok(Reply::NoColumn),
+            Reply::KindMismatch => Ok(Reply::KindMismatch),
+            Reply::KeyColumn => Ok(Reply::KeyColumn),
+            Reply::ColumnCount => Ok(Reply::ColumnCount),
             Reply::Duplicate => Ok(Reply::Duplicate),
+            Reply::NullNotAllowed => Ok(Reply::NullNotAllowed),
+            Reply::TooLong => Ok(Reply::TooLong),
+            Reply::KeyTooWide => Ok(Reply::KeyTooWide),
+            Reply::RowTooWide => Ok(Reply::RowTooWide),
             Reply::TooManyWrites => Ok(Reply::TooManyWrites),
+            Reply::Overflow => Ok(Reply::Overflow),
             Reply::Halted(number) => Ok(Reply::Halted(*number)),
             Reply::Conflict(number) => Ok(Reply::Conflict(*number)),
             Reply::Full { need, room } => Ok(Reply::Full {

@@ -133,6 +133,11 @@ abbrev pub Reads : {A : Type 0} → Outcome A → Result A ParseError → List I
 Reads outcome (Ok a) new = outcome ≡ Ok (a, new)
 Reads outcome (Err e) new = e ≢ NoMemory → outcome ≡ Err (e, new)
 
+-- the answer of this reader on the old items, which leaves no more than they are
+abbrev pub ReadsAs : {A : Type 0} → Reader A → List Item → Result A ParseError → List Item → Type 0
+ReadsAs reader old (Ok a) new = (reader old ≡ Ok (a, new)) × (length new ≤ length old)
+ReadsAs reader old (Err e) new = e ≢ NoMemory → reader old ≡ Err (e, new)
+
 -- no more items are left, and fewer where a token stood next
 pub record Shortens (old new : List Item) : Type 0 where
   pub most : length new ≤ length old

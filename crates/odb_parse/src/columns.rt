@@ -1,6 +1,5 @@
 //! The columns of a CREATE TABLE.
-ghost use Rattle.std.specs.Prelude.{◌≤◌, length, OnOk};
-ghost use Rattle.odb_parse.specs.Reading.{Reads};
+ghost use Rattle.odb_parse.specs.Reading.{ReadsAs};
 ghost use Rattle.odb_parse.specs.Statements as spec;
 
 use crate::ParseError;
@@ -12,8 +11,7 @@ use std::alloc::Global;
 
 /// `column {, column} , PRIMARY`
 pub fn columns(alloc: Global, tokens: &mut Tokens<'_>) -> Result<ColumnTexts, ParseError>
-    ensures reads { Reads (spec.columns tokens.old) result tokens.new }
-    ensures shorter { OnOk result (length tokens.new ≤ length tokens.old) }
+    ensures reads { ReadsAs spec.columns tokens.old result tokens.new }
 {
     let mut columns = Vec::new(alloc);
     'more: loop {
@@ -28,8 +26,7 @@ pub fn columns(alloc: Global, tokens: &mut Tokens<'_>) -> Result<ColumnTexts, Pa
 /// `name (INTEGER | VARCHAR ( number )) [NOT NULL]`
 #[tactic(auto, unfolding(crate::specs::Statements::column))]
 fn column(alloc: Global, tokens: &mut Tokens<'_>) -> Result<ColumnText, ParseError>
-    ensures reads { Reads (spec.column tokens.old) result tokens.new }
-    ensures shorter { OnOk result (length tokens.new ≤ length tokens.old) }
+    ensures reads { ReadsAs spec.column tokens.old result tokens.new }
 {
     let name = tokens.name(alloc)?;
     let length = column_length(tokens)?;
@@ -44,8 +41,7 @@ fn column(alloc: Global, tokens: &mut Tokens<'_>) -> Result<ColumnText, ParseErr
 /// `INTEGER | VARCHAR ( number )`
 #[tactic(auto, unfolding(crate::specs::Statements::column_length))]
 fn column_length(tokens: &mut Tokens<'_>) -> Result<Option<u64>, ParseError>
-    ensures reads { Reads (spec.column_length tokens.old) result tokens.new }
-    ensures shorter { OnOk result (length tokens.new ≤ length tokens.old) }
+    ensures reads { ReadsAs spec.column_length tokens.old result tokens.new }
 {
     if tokens.sees_word(Keyword::Varchar) {
         tokens.skip()?;
@@ -61,8 +57,7 @@ fn column_length(tokens: &mut Tokens<'_>) -> Result<Option<u64>, ParseError>
 /// `[NOT NULL]`
 #[tactic(auto, unfolding(crate::specs::Statements::not_null))]
 fn not_null(tokens: &mut Tokens<'_>) -> Result<bool, ParseError>
-    ensures reads { Reads (spec.not_null tokens.old) result tokens.new }
-    ensures shorter { OnOk result (length tokens.new ≤ length tokens.old) }
+    ensures reads { ReadsAs spec.not_null tokens.old result tokens.new }
 {
     if !tokens.eat_word(Keyword::Not)? {
         return Ok(false);

@@ -1,7 +1,6 @@
 //! Statements that define databanks, tables, shadows and backups. In each of them its first word
 //! stands next.
-ghost use Rattle.std.specs.Prelude.{◌≤◌, length, OnOk};
-ghost use Rattle.odb_parse.specs.Reading.{Reads};
+ghost use Rattle.odb_parse.specs.Reading.{ReadsAs};
 ghost use Rattle.odb_parse.specs.Statements as spec;
 
 use crate::ParseError;
@@ -15,8 +14,7 @@ use std::alloc::Global;
 /// `CREATE (DATABANK | TABLE | SHADOW | BACKUP) name ..`
 #[tactic(auto, unfolding(crate::specs::Statements::create))]
 pub fn create(alloc: Global, tokens: &mut Tokens<'_>) -> Result<Statement, ParseError>
-    ensures reads { Reads (spec.create tokens.old) result tokens.new }
-    ensures shorter { OnOk result (length tokens.new ≤ length tokens.old) }
+    ensures reads { ReadsAs spec.create tokens.old result tokens.new }
 {
     tokens.skip()?;
     match tokens.peek() {
@@ -46,8 +44,7 @@ pub fn create(alloc: Global, tokens: &mut Tokens<'_>) -> Result<Statement, Parse
 /// `TABLE name ( column {, column} , PRIMARY KEY ( name {, name} ) ) IN name`
 #[tactic(auto, unfolding(crate::specs::Statements::create_table))]
 fn create_table(alloc: Global, tokens: &mut Tokens<'_>) -> Result<Statement, ParseError>
-    ensures reads { Reads (spec.create_table tokens.old) result tokens.new }
-    ensures shorter { OnOk result (length tokens.new ≤ length tokens.old) }
+    ensures reads { ReadsAs spec.create_table tokens.old result tokens.new }
 {
     tokens.expect_word(Keyword::Table)?;
     let name = tokens.name(alloc)?;
@@ -71,8 +68,7 @@ fn create_table(alloc: Global, tokens: &mut Tokens<'_>) -> Result<Statement, Par
 /// `DROP (TABLE | SHADOW | BACKUP) name`
 #[tactic(auto, unfolding(crate::specs::Statements::drop_object))]
 pub fn drop_object(alloc: Global, tokens: &mut Tokens<'_>) -> Result<Statement, ParseError>
-    ensures reads { Reads (spec.drop_object tokens.old) result tokens.new }
-    ensures shorter { OnOk result (length tokens.new ≤ length tokens.old) }
+    ensures reads { ReadsAs spec.drop_object tokens.old result tokens.new }
 {
     tokens.skip()?;
     match tokens.peek() {
@@ -97,8 +93,7 @@ pub fn drop_object(alloc: Global, tokens: &mut Tokens<'_>) -> Result<Statement, 
 /// `SET SHADOW name (ONLINE | OFFLINE) | SET BACKUP name READY`
 #[tactic(auto, unfolding(crate::specs::Statements::set_object))]
 pub fn set_object(alloc: Global, tokens: &mut Tokens<'_>) -> Result<Statement, ParseError>
-    ensures reads { Reads (spec.set_object tokens.old) result tokens.new }
-    ensures shorter { OnOk result (length tokens.new ≤ length tokens.old) }
+    ensures reads { ReadsAs spec.set_object tokens.old result tokens.new }
 {
     tokens.skip()?;
     if tokens.sees_word(Keyword::Shadow) {
@@ -110,8 +105,7 @@ pub fn set_object(alloc: Global, tokens: &mut Tokens<'_>) -> Result<Statement, P
 /// `BACKUP name READY`
 #[tactic(auto, unfolding(crate::specs::Statements::set_backup))]
 fn set_backup(alloc: Global, tokens: &mut Tokens<'_>) -> Result<Statement, ParseError>
-    ensures reads { Reads (spec.set_backup tokens.old) result tokens.new }
-    ensures shorter { OnOk result (length tokens.new ≤ length tokens.old) }
+    ensures reads { ReadsAs spec.set_backup tokens.old result tokens.new }
 {
     tokens.expect_word(Keyword::Backup)?;
     let name = tokens.name(alloc)?;
@@ -122,8 +116,7 @@ fn set_backup(alloc: Global, tokens: &mut Tokens<'_>) -> Result<Statement, Parse
 /// `SHADOW name (ONLINE | OFFLINE)`, where SHADOW stands next
 #[tactic(auto, unfolding(crate::specs::Statements::set_shadow))]
 fn set_shadow(alloc: Global, tokens: &mut Tokens<'_>) -> Result<Statement, ParseError>
-    ensures reads { Reads (spec.set_shadow tokens.old) result tokens.new }
-    ensures shorter { OnOk result (length tokens.new ≤ length tokens.old) }
+    ensures reads { ReadsAs spec.set_shadow tokens.old result tokens.new }
 {
     tokens.skip()?;
     let name = tokens.name(alloc)?;
@@ -137,8 +130,7 @@ fn set_shadow(alloc: Global, tokens: &mut Tokens<'_>) -> Result<Statement, Parse
 /// `ALTER SHADOW name TO MASTER`
 #[tactic(auto, unfolding(crate::specs::Statements::alter))]
 pub fn alter(alloc: Global, tokens: &mut Tokens<'_>) -> Result<Statement, ParseError>
-    ensures reads { Reads (spec.alter tokens.old) result tokens.new }
-    ensures shorter { OnOk result (length tokens.new ≤ length tokens.old) }
+    ensures reads { ReadsAs spec.alter tokens.old result tokens.new }
 {
     tokens.skip()?;
     tokens.expect_word(Keyword::Shadow)?;
@@ -151,8 +143,7 @@ pub fn alter(alloc: Global, tokens: &mut Tokens<'_>) -> Result<Statement, ParseE
 /// `RESTORE name FROM name`
 #[tactic(auto, unfolding(crate::specs::Statements::restore))]
 pub fn restore(alloc: Global, tokens: &mut Tokens<'_>) -> Result<Statement, ParseError>
-    ensures reads { Reads (spec.restore tokens.old) result tokens.new }
-    ensures shorter { OnOk result (length tokens.new ≤ length tokens.old) }
+    ensures reads { ReadsAs spec.restore tokens.old result tokens.new }
 {
     tokens.skip()?;
     let bank = tokens.name(alloc)?;

@@ -1,6 +1,5 @@
 //! Comma lists.
-ghost use Rattle.std.specs.Prelude.{◌≤◌, length, OnOk};
-ghost use Rattle.odb_parse.specs.Reading.{Reader, Reads, name};
+ghost use Rattle.odb_parse.specs.Reading.{Reader, ReadsAs, name};
 ghost use Rattle.odb_parse.specs.Statements as statements;
 ghost use Rattle.odb_parse.specs.Sums as sums;
 
@@ -19,8 +18,7 @@ pub trait ListItem {
 
     /// Reads one.
     fn read(alloc: Global, tokens: &mut Tokens<'_>) -> Result<Self, ParseError>
-        ensures reads { Reads (reader tokens.old) result tokens.new }
-        ensures shorter { OnOk result (length tokens.new ≤ length tokens.old) };
+        ensures reads { ReadsAs reader tokens.old result tokens.new };
 }
 
 /// `item {, item}`
@@ -28,8 +26,7 @@ pub fn listed<T: ListItem + Drop>(
     alloc: Global,
     tokens: &mut Tokens<'_>,
 ) -> Result<Frozen<T>, ParseError>
-    ensures reads { Reads (sums.listed T.reader tokens.old) result tokens.new }
-    ensures shorter { OnOk result (length tokens.new ≤ length tokens.old) }
+    ensures reads { ReadsAs (sums.listed T.reader) tokens.old result tokens.new }
 {
     let mut items = Vec::new(alloc);
     'more: loop {

@@ -1,6 +1,6 @@
 //! What a WHERE asks.
-ghost use Rattle.std.specs.Prelude.{◌≡◌, ◌≤◌, length, OnOk};
-ghost use Rattle.odb_parse.specs.Reading.{Reads};
+ghost use Rattle.std.specs.Prelude.{◌≡◌};
+ghost use Rattle.odb_parse.specs.Reading.{ReadsAs};
 ghost use Rattle.odb_parse.specs.Predicates as spec;
 
 use crate::ParseError;
@@ -17,8 +17,7 @@ const MOST_NESTED: u32 = 64;
 /// `[WHERE pred]`
 #[tactic(auto, unfolding(crate::specs::Predicates::filter))]
 pub fn filter(alloc: Global, tokens: &mut Tokens<'_>) -> Result<Option<Predicate>, ParseError>
-    ensures reads { Reads (spec.filter tokens.old) result tokens.new }
-    ensures shorter { OnOk result (length tokens.new ≤ length tokens.old) }
+    ensures reads { ReadsAs spec.filter tokens.old result tokens.new }
 {
     if tokens.eat_word(Keyword::Where)? {
         Ok(Some(predicate(alloc, tokens, MOST_NESTED)?))
@@ -31,8 +30,7 @@ pub fn filter(alloc: Global, tokens: &mut Tokens<'_>) -> Result<Option<Predicate
 #[cycle(predicate)]
 #[tactic(auto, unfolding(crate::specs::Predicates::predicate, crate::specs::Predicates::whole_of))]
 fn predicate(alloc: Global, tokens: &mut Tokens<'_>, room: u32) -> Result<Predicate, ParseError>
-    ensures reads { Reads (spec.predicate room tokens.old) result tokens.new }
-    ensures shorter { OnOk result (length tokens.new ≤ length tokens.old) }
+    ensures reads { ReadsAs (spec.predicate room) tokens.old result tokens.new }
 {
     let mut all = conjunction(alloc, tokens, room)?;
     'ors: while tokens.eat_word(Keyword::Or)? {
@@ -46,8 +44,7 @@ fn predicate(alloc: Global, tokens: &mut Tokens<'_>, room: u32) -> Result<Predic
 #[cycle(predicate)]
 #[tactic(auto, unfolding(crate::specs::Predicates::conjunction, crate::specs::Predicates::conjunction_of))]
 fn conjunction(alloc: Global, tokens: &mut Tokens<'_>, room: u32) -> Result<Predicate, ParseError>
-    ensures reads { Reads (spec.conjunction room tokens.old) result tokens.new }
-    ensures shorter { OnOk result (length tokens.new ≤ length tokens.old) }
+    ensures reads { ReadsAs (spec.conjunction room) tokens.old result tokens.new }
 {
     let mut all = negation(alloc, tokens, room)?;
     'ands: while tokens.eat_word(Keyword::And)? {
@@ -61,8 +58,7 @@ fn conjunction(alloc: Global, tokens: &mut Tokens<'_>, room: u32) -> Result<Pred
 #[cycle(predicate)]
 #[tactic(auto, unfolding(crate::specs::Predicates::negation))]
 fn negation(alloc: Global, tokens: &mut Tokens<'_>, room: u32) -> Result<Predicate, ParseError>
-    ensures reads { Reads (spec.negation room tokens.old) result tokens.new }
-    ensures shorter { OnOk result (length tokens.new ≤ length tokens.old) }
+    ensures reads { ReadsAs (spec.negation room) tokens.old result tokens.new }
 {
     if room == 0 {
         return test(alloc, tokens);
@@ -86,8 +82,7 @@ fn negation(alloc: Global, tokens: &mut Tokens<'_>, room: u32) -> Result<Predica
 /// `operand (= | <> | < | <= | > | >=) operand | name IS [NOT] NULL`
 #[tactic(auto, unfolding(crate::specs::Predicates::single_test))]
 fn test(alloc: Global, tokens: &mut Tokens<'_>) -> Result<Predicate, ParseError>
-    ensures reads { Reads (spec.single_test tokens.old) result tokens.new }
-    ensures shorter { OnOk result (length tokens.new ≤ length tokens.old) }
+    ensures reads { ReadsAs spec.single_test tokens.old result tokens.new }
 {
     let left = operand(alloc, tokens)?;
     if tokens.sees_word(Keyword::Is) {
@@ -104,8 +99,7 @@ fn test(alloc: Global, tokens: &mut Tokens<'_>) -> Result<Predicate, ParseError>
 /// `name IS [NOT] NULL`, from IS on
 #[tactic(auto, unfolding(crate::specs::Predicates::null_test))]
 fn null_test(tokens: &mut Tokens<'_>, left: Operand) -> Result<Predicate, ParseError>
-    ensures reads { Reads (spec.null_test left tokens.old) result tokens.new }
-    ensures shorter { OnOk result (length tokens.new ≤ length tokens.old) }
+    ensures reads { ReadsAs (spec.null_test left) tokens.old result tokens.new }
 {
     let Operand::Column(column) = left else {
         return Err(tokens.refuse());

@@ -1,6 +1,5 @@
 //! Statements on rows, and those that begin and end a transaction.
-ghost use Rattle.std.specs.Prelude.{◌≤◌, length, OnOk};
-ghost use Rattle.odb_parse.specs.Reading.{Reads};
+ghost use Rattle.odb_parse.specs.Reading.{ReadsAs};
 ghost use Rattle.odb_parse.specs.Statements as spec;
 
 use crate::ParseError;
@@ -16,8 +15,7 @@ use std::alloc::Global;
 /// A statement, up to its `;`.
 #[tactic(auto, unfolding(crate::specs::Statements::statement))]
 pub fn statement(alloc: Global, tokens: &mut Tokens<'_>) -> Result<Statement, ParseError>
-    ensures reads { Reads (spec.statement tokens.old) result tokens.new }
-    ensures shorter { OnOk result (length tokens.new ≤ length tokens.old) }
+    ensures reads { ReadsAs spec.statement tokens.old result tokens.new }
 {
     let Kind::Word(word) = tokens.peek() else {
         return Err(tokens.refuse());
@@ -41,8 +39,7 @@ pub fn statement(alloc: Global, tokens: &mut Tokens<'_>) -> Result<Statement, Pa
 
 /// A statement of one word, which stands next.
 fn alone(tokens: &mut Tokens<'_>, statement: Statement) -> Result<Statement, ParseError>
-    ensures reads { Reads (spec.alone statement tokens.old) result tokens.new }
-    ensures shorter { OnOk result (length tokens.new ≤ length tokens.old) }
+    ensures reads { ReadsAs (spec.alone statement) tokens.old result tokens.new }
 {
     tokens.skip()?;
     Ok(statement)
@@ -51,8 +48,7 @@ fn alone(tokens: &mut Tokens<'_>, statement: Statement) -> Result<Statement, Par
 /// `SELECT what FROM name filter`, where SELECT stands next
 #[tactic(auto, unfolding(crate::specs::Statements::select))]
 fn select(alloc: Global, tokens: &mut Tokens<'_>) -> Result<Statement, ParseError>
-    ensures reads { Reads (spec.select tokens.old) result tokens.new }
-    ensures shorter { OnOk result (length tokens.new ≤ length tokens.old) }
+    ensures reads { ReadsAs spec.select tokens.old result tokens.new }
 {
     tokens.skip()?;
     let what = what(alloc, tokens)?;
@@ -69,8 +65,7 @@ fn select(alloc: Global, tokens: &mut Tokens<'_>) -> Result<Statement, ParseErro
 /// `* | name {, name} | COUNT ( * ) | SUM ( name )`
 #[tactic(auto, unfolding(crate::specs::Statements::what))]
 fn what(alloc: Global, tokens: &mut Tokens<'_>) -> Result<What, ParseError>
-    ensures reads { Reads (spec.what tokens.old) result tokens.new }
-    ensures shorter { OnOk result (length tokens.new ≤ length tokens.old) }
+    ensures reads { ReadsAs spec.what tokens.old result tokens.new }
 {
     match tokens.peek() {
         Kind::Symbol(Sign::Star) => {
@@ -98,8 +93,7 @@ fn what(alloc: Global, tokens: &mut Tokens<'_>) -> Result<What, ParseError>
 /// `INSERT INTO name VALUES tuple {, tuple}`, where INSERT stands next
 #[tactic(auto, unfolding(crate::specs::Statements::insert))]
 fn insert(alloc: Global, tokens: &mut Tokens<'_>) -> Result<Statement, ParseError>
-    ensures reads { Reads (spec.insert tokens.old) result tokens.new }
-    ensures shorter { OnOk result (length tokens.new ≤ length tokens.old) }
+    ensures reads { ReadsAs spec.insert tokens.old result tokens.new }
 {
     tokens.skip()?;
     tokens.expect_word(Keyword::Into)?;
@@ -112,8 +106,7 @@ fn insert(alloc: Global, tokens: &mut Tokens<'_>) -> Result<Statement, ParseErro
 /// `UPDATE name SET set {, set} filter`, where UPDATE stands next
 #[tactic(auto, unfolding(crate::specs::Statements::update))]
 fn update(alloc: Global, tokens: &mut Tokens<'_>) -> Result<Statement, ParseError>
-    ensures reads { Reads (spec.update tokens.old) result tokens.new }
-    ensures shorter { OnOk result (length tokens.new ≤ length tokens.old) }
+    ensures reads { ReadsAs spec.update tokens.old result tokens.new }
 {
     tokens.skip()?;
     let table = tokens.name(alloc)?;
@@ -130,8 +123,7 @@ fn update(alloc: Global, tokens: &mut Tokens<'_>) -> Result<Statement, ParseErro
 /// `name = expr`
 #[tactic(auto, unfolding(crate::specs::Statements::assignment))]
 pub fn assignment(alloc: Global, tokens: &mut Tokens<'_>) -> Result<Assignment, ParseError>
-    ensures reads { Reads (spec.assignment tokens.old) result tokens.new }
-    ensures shorter { OnOk result (length tokens.new ≤ length tokens.old) }
+    ensures reads { ReadsAs spec.assignment tokens.old result tokens.new }
 {
     let column = tokens.name(alloc)?;
     tokens.expect_sign(Sign::Equal)?;
@@ -142,8 +134,7 @@ pub fn assignment(alloc: Global, tokens: &mut Tokens<'_>) -> Result<Assignment, 
 /// `DELETE FROM name filter`, where DELETE stands next
 #[tactic(auto, unfolding(crate::specs::Statements::delete))]
 fn delete(alloc: Global, tokens: &mut Tokens<'_>) -> Result<Statement, ParseError>
-    ensures reads { Reads (spec.delete tokens.old) result tokens.new }
-    ensures shorter { OnOk result (length tokens.new ≤ length tokens.old) }
+    ensures reads { ReadsAs spec.delete tokens.old result tokens.new }
 {
     tokens.skip()?;
     tokens.expect_word(Keyword::From)?;

@@ -1,6 +1,6 @@
 //! Literals, operands, sums and tuples.
-ghost use Rattle.std.specs.Prelude.{◌≡◌, ◌≤◌, pos, neg_ℤ, length, OnOk};
-ghost use Rattle.odb_parse.specs.Reading.{Reads};
+ghost use Rattle.std.specs.Prelude.{◌≡◌, ◌≤◌, pos, neg_ℤ};
+ghost use Rattle.odb_parse.specs.Reading.{ReadsAs};
 ghost use Rattle.odb_parse.specs.Sums as spec;
 
 use crate::ParseError;
@@ -17,8 +17,7 @@ pub const GREATEST: u64 = 9_223_372_036_854_775_807;
 /// `[-] number | text | NULL`
 #[tactic(auto, unfolding(crate::specs::Sums::literal))]
 pub fn literal(alloc: Global, tokens: &mut Tokens<'_>) -> Result<Value, ParseError>
-    ensures reads { Reads (spec.literal tokens.old) result tokens.new }
-    ensures shorter { OnOk result (length tokens.new ≤ length tokens.old) }
+    ensures reads { ReadsAs spec.literal tokens.old result tokens.new }
 {
     match tokens.peek() {
         Kind::Symbol(Sign::Minus) => {
@@ -48,8 +47,7 @@ fn negated(number: u64) -> i64
 /// `name | literal`
 #[tactic(auto, unfolding(crate::specs::Sums::operand))]
 pub fn operand(alloc: Global, tokens: &mut Tokens<'_>) -> Result<Operand, ParseError>
-    ensures reads { Reads (spec.operand tokens.old) result tokens.new }
-    ensures shorter { OnOk result (length tokens.new ≤ length tokens.old) }
+    ensures reads { ReadsAs spec.operand tokens.old result tokens.new }
 {
     match tokens.peek() {
         Kind::Name => Ok(Operand::Column(tokens.name(alloc)?)),
@@ -70,8 +68,7 @@ fn adds(kind: Kind) -> Option<bool>
 
 /// `{(+ | -) operand}`
 fn terms(alloc: Global, tokens: &mut Tokens<'_>) -> Result<Frozen<Term>, ParseError>
-    ensures reads { Reads (spec.terms tokens.old) result tokens.new }
-    ensures shorter { OnOk result (length tokens.new ≤ length tokens.old) }
+    ensures reads { ReadsAs spec.terms tokens.old result tokens.new }
 {
     let mut terms = Vec::new(alloc);
     'more: while let Some(minus) = adds(tokens.peek()) {
@@ -85,8 +82,7 @@ fn terms(alloc: Global, tokens: &mut Tokens<'_>) -> Result<Frozen<Term>, ParseEr
 /// `operand {(+ | -) operand}`
 #[tactic(auto, unfolding(crate::specs::Sums::expression))]
 pub fn expression(alloc: Global, tokens: &mut Tokens<'_>) -> Result<Expression, ParseError>
-    ensures reads { Reads (spec.expression tokens.old) result tokens.new }
-    ensures shorter { OnOk result (length tokens.new ≤ length tokens.old) }
+    ensures reads { ReadsAs spec.expression tokens.old result tokens.new }
 {
     let first = operand(alloc, tokens)?;
     let rest = terms(alloc, tokens)?;
@@ -96,8 +92,7 @@ pub fn expression(alloc: Global, tokens: &mut Tokens<'_>) -> Result<Expression, 
 /// `( literal {, literal} )`
 #[tactic(auto, unfolding(crate::specs::Sums::tuple))]
 pub fn tuple(alloc: Global, tokens: &mut Tokens<'_>) -> Result<Values, ParseError>
-    ensures reads { Reads (spec.tuple tokens.old) result tokens.new }
-    ensures shorter { OnOk result (length tokens.new ≤ length tokens.old) }
+    ensures reads { ReadsAs spec.tuple tokens.old result tokens.new }
 {
     tokens.expect_sign(Sign::Open)?;
     let values = listed(alloc, tokens)?;

@@ -5,7 +5,7 @@ ghost use Rattle.odb_lex.specs.Next.{next_in};
 ghost use Rattle.odb_model.specs.Lexeme.{lexeme_of};
 ghost use Rattle.odb_parse.specs.Items.{items_of, kind_in, kind_of, refusal};
 ghost use Rattle.odb_parse.specs.Reading as spec;
-ghost use Rattle.odb_parse.specs.Reading.{Reads, Shortens, IsBeginning};
+ghost use Rattle.odb_parse.specs.Reading.{Reads, ReadsAs, Shortens, IsBeginning};
 
 use crate::ParseError;
 use crate::kind::Kind;
@@ -118,8 +118,7 @@ impl<'a> Tokens<'a> {
     /// Goes past this word if it stands next, and answers whether it did.
     #[tactic(auto, unfolding(crate::specs::Reading::eat_word))]
     pub fn eat_word(&mut self, word: Keyword) -> Result<bool, ParseError>
-        ensures reads { Reads (spec.eat_word word self.old) result self.new }
-        ensures shorter { OnOk result (length self.new ≤ length self.old) }
+        ensures reads { ReadsAs (spec.eat_word word) self.old result self.new }
     {
         let found = self.sees_word(word);
         if found {
@@ -131,8 +130,7 @@ impl<'a> Tokens<'a> {
     /// Goes past this sign if it stands next, and answers whether it did.
     #[tactic(auto, unfolding(crate::specs::Reading::eat_sign))]
     pub fn eat_sign(&mut self, sign: Sign) -> Result<bool, ParseError>
-        ensures reads { Reads (spec.eat_sign sign self.old) result self.new }
-        ensures shorter { OnOk result (length self.new ≤ length self.old) }
+        ensures reads { ReadsAs (spec.eat_sign sign) self.old result self.new }
     {
         let found = self.sees_sign(sign);
         if found {
@@ -144,8 +142,7 @@ impl<'a> Tokens<'a> {
     /// Goes past this word, which has to stand next.
     #[tactic(auto, unfolding(crate::specs::Reading::expect_word))]
     pub fn expect_word(&mut self, word: Keyword) -> Result<(), ParseError>
-        ensures reads { Reads (spec.expect_word word self.old) result self.new }
-        ensures shorter { OnOk result (length self.new ≤ length self.old) }
+        ensures reads { ReadsAs (spec.expect_word word) self.old result self.new }
     {
         if self.sees_word(word) {
             self.skip()
@@ -157,8 +154,7 @@ impl<'a> Tokens<'a> {
     /// Goes past this sign, which has to stand next.
     #[tactic(auto, unfolding(crate::specs::Reading::expect_sign))]
     pub fn expect_sign(&mut self, sign: Sign) -> Result<(), ParseError>
-        ensures reads { Reads (spec.expect_sign sign self.old) result self.new }
-        ensures shorter { OnOk result (length self.new ≤ length self.old) }
+        ensures reads { ReadsAs (spec.expect_sign sign) self.old result self.new }
     {
         if self.sees_sign(sign) {
             self.skip()
@@ -181,8 +177,7 @@ impl<'a> Tokens<'a> {
     /// The name that has to stand next, in capitals.
     #[tactic(auto, unfolding(crate::specs::Reading::name))]
     pub fn name(&mut self, alloc: Global) -> Result<Text, ParseError>
-        ensures reads { Reads (spec.name self.old) result self.new }
-        ensures shorter { OnOk result (length self.new ≤ length self.old) }
+        ensures reads { ReadsAs spec.name self.old result self.new }
     {
         let Kind::Name = self.kind else {
             return Err(self.refuse());
@@ -198,8 +193,7 @@ impl<'a> Tokens<'a> {
     /// The value of the quoted text that has to stand next.
     #[tactic(auto, unfolding(crate::specs::Reading::quoted))]
     pub fn quoted(&mut self, alloc: Global) -> Result<Text, ParseError>
-        ensures reads { Reads (spec.quoted self.old) result self.new }
-        ensures shorter { OnOk result (length self.new ≤ length self.old) }
+        ensures reads { ReadsAs spec.quoted self.old result self.new }
     {
         let Kind::Quoted = self.kind else {
             return Err(self.refuse());
@@ -215,9 +209,8 @@ impl<'a> Tokens<'a> {
     /// The number that has to stand next, of at most `most`.
     #[tactic(auto, unfolding(crate::specs::Reading::number))]
     pub fn number(&mut self, most: u64) -> Result<u64, ParseError>
-        ensures reads { Reads (spec.number most self.old) result self.new }
+        ensures reads { ReadsAs (spec.number most) self.old result self.new }
         ensures small { IfOk result (λ n. n ≤ most) }
-        ensures shorter { OnOk result (length self.new ≤ length self.old) }
     {
         let Kind::Number = self.kind else {
             return Err(self.refuse());

@@ -1,18 +1,18 @@
 -- What writes leave.
-use Rattle.std.proofs.Common.{◌≡◌, ℕ, ◌+◌, ◌<◌, Bool, true, false, ◌||◌, cond, List, [], ◌∷◌, ◌++◌, length, take, get_or, map, filter, is_some, refl, ap, sym, ◌∙◌, Option, Some, None}
+use Rattle.std.proofs.Common.{◌≡◌, ℕ, ◌+◌, ◌<◌, Bool, true, false, ◌||◌, cond, List, [], ◌∷◌, ◌++◌, length, take, get_or, map, filter, is_some, refl, ap, sym, ◌∙◌, Some}
 use Rattle.std.specs.List.{AllByRecursion}
 use Rattle.std.specs.Ordering.{eq_by_cmp}
-use Rattle.std.specs.FinMap.{FinMap, empty, get, insert, entries, from_entries, get-empty, get-insert}
+use Rattle.std.specs.FinMap.{get, entries, from_entries}
 use Rattle.std.specs.BTreeMap.{BTreeMap, IsOrdered}
 use Rattle.std.proofs.lemmas.List.Elements.{recursion_from_All}
 use Rattle.std.proofs.lemmas.Map.Views.{All-found}
-use Rattle.odb_values.specs.declared.value.Value.{Value}
 use Rattle.odb_model.specs.declared.write.Write.{Write}
 use Rattle.odb_model.specs.declared.table_key.TableKey.{TableKey}
 use Rattle.odb_model.specs.State.{State, table_key_cmp, table_key_of, changed, after_writes}
-use Rattle.odb_model.specs.Transaction.{last_from, last_writes, is_there, net}
+use Rattle.odb_model.specs.Transaction.{last_writes, is_there, net}
 use Rattle.odb_model.proofs.Replay.{table_key_cmp_total, get-changed_at}
 use Rattle.odb_model.proofs.Parts.{entries-retain_keys}
+use Rattle.odb_model.proofs.Intended.{after_last}
 use Rattle.odb_plain.proofs.Items.{take-item}
 use Rattle.odb_plain.proofs.Maps.{get-at_key, entries-from_ordered}
 
@@ -38,27 +38,6 @@ module _ (ws : List Write) (i : ℕ) (w : Write) (within : i < length ws) (is : 
       ap (λ vs. get (after_writes s vs) q) (take-item ws i w within is)
       ∙ ap (λ t. get t q) (after_writes-append s (take i ws) (w ∷ []))
       ∙ get-changed_at (after_writes s (take i ws)) (table_key_of w) w.row q
-
--- a write, if there is one, laid over a row
-abbrev laid_over : Option Write → Option (List Value) → Option (List Value)
-laid_over None row = row
-laid_over (Some w) row = w.row
-
-laid_over-cond : (b : Bool) (w : Write) (o : Option Write) (row : Option (List Value)) → cond b w.row (laid_over o row) ≡ laid_over (cond b (Some w) o) row
-laid_over-cond true w o row = refl
-laid_over-cond false w o row = refl
-
-after_last_from : (s t : State) (m : FinMap table_key_cmp Write) (ws : List Write) (q : TableKey) → get t q ≡ laid_over (get m q) (get s q) → get (after_writes t ws) q ≡ laid_over (get (last_from m ws) q) (get s q)
-after_last_from s t m [] q same = same
-after_last_from s t m (w ∷ ws) q same =
-    after_last_from s (changed t (table_key_of w) w.row) (insert m (table_key_of w) w) ws q
-    (get-changed_at t (table_key_of w) w.row q ∙ ap (cond (eq_by_cmp table_key_cmp q (table_key_of w)) w.row) same
-    ∙ laid_over-cond (eq_by_cmp table_key_cmp q (table_key_of w)) w (get m q) (get s q)
-    ∙ ap (λ o. laid_over o (get s q)) (sym (get-insert table_key_cmp_total m (table_key_of w) w q)))
-
--- after writes a place has the row of its last write
-after_last : (s : State) (ws : List Write) (q : TableKey) (w : Write) → get (last_writes ws) q ≡ Some w → get (after_writes s ws) q ≡ w.row
-after_last s ws q w e = after_last_from s s empty ws q (sym (ap (λ o. laid_over o (get s q)) (get-empty table_key_cmp q))) ∙ ap (λ o. laid_over o (get s q)) e
 
 or_turned : (a b : Bool) → (a || b) ≡ (b || a)
 or_turned true true = refl

@@ -1,5 +1,5 @@
 //! The statements of a transaction, one at a time.
-ghost use Rattle.std.specs.Prelude.{◌≡◌, [], ◌∷◌, map, slice_get, unwrap_or, IfOk, IsTrue};
+ghost use Rattle.std.specs.Prelude.{◌≡◌, ℕ, [], ◌∷◌, map, slice_get, unwrap_or, IfOk, IsTrue};
 ghost use Rattle.std.specs.FinMap.{entries};
 ghost use Rattle.odb_values.specs.declared.value.Value.TheVariants.{Null};
 ghost use Rattle.odb_model.specs.Meaning.{is_built};
@@ -14,26 +14,27 @@ use odb_model::{Entry, Outcome, Ranges, Reply, Statement, TableKey, ValueRows, W
 use odb_values::{Duplicate, Frozen, List};
 use std::alloc::{AllocError, Global};
 
-/// What a statement does where the transaction's write set is laid over this history: its reply,
-/// its writes in their order, and the ranges that it reads. [`crate::is_built`] is the test of the
-/// condition, and the rest is as [`execute_form`] has it.
+/// What a statement does where the transaction's write set is laid over this history, in a database
+/// of this format, 1 or 2: its reply, its writes in their order, and the ranges that it reads.
+/// [`crate::is_built`] is the test of the condition, and the rest is as [`execute_form`] has it.
 pub fn execute(
     alloc: Global,
     statement: &Statement,
     history: &[Entry],
     write_set: &[Write],
+    format: u16,
 ) -> Result<Outcome, AllocError>
     requires { IsTrue (is_built statement.now) }
-    ensures { IfOk result (IsOutcomeOf statement.now history.now write_set.now) }
+    ensures { IfOk result (IsOutcomeOf statement.now history.now write_set.now format) }
 {
     match form_of(statement) {
-        Some(form) => execute_form(alloc, form, history, write_set),
+        Some(form) => execute_form(alloc, form, history, write_set, format),
         None => unreachable!(),
     }
 }
 
-/// What the statement of a form does where the transaction's write set is laid over this history.
-/// The history and the write set stay as they are.
+/// What the statement of a form does where the transaction's write set is laid over this history, in
+/// a database of this format. The history and the write set stay as they are.
 ///
 /// A SELECT or an INSERT goes over the whole history once, and takes memory for the rows inside the
 /// range that it reads. An INSERT behind 4,096 writes or more takes memory for the last one of each
@@ -43,8 +44,9 @@ pub fn execute_form(
     form: Form,
     history: &[Entry],
     write_set: &[Write],
+    format: u16,
 ) -> Result<Outcome, AllocError>
-    ensures { IfOk result (IsOutcomeOf (statement_of form) history.now write_set.now) }
+    ensures { IfOk result (IsOutcomeOf (statement_of form) history.now write_set.now format) }
 {
     match form {
         Form::Start | Form::Commit => Ok(mark(alloc)),
@@ -75,7 +77,7 @@ fn refused(alloc: Global, reply: Reply, reads: Ranges) -> Outcome
     }
 }
 
-/// INSERT INTO KV of one key and its value.
+/// INSERT INTO KV of one key and its value, which fit in each format.
 fn insert(
     alloc: Global,
     key: i64,
@@ -83,8 +85,8 @@ fn insert(
     history: &[Entry],
     write_set: &[Write],
 ) -> Result<Outcome, AllocError>
-    ensures { IfOk result
-        (IsOutcomeOf (statement_of (Form.Insert key value)) history.now write_set.now) }
+    ensures { (format : ℕ) → IfOk result
+        (IsOutcomeOf (statement_of (Form.Insert key value)) history.now write_set.now format) }
 {
     let write = kv_write(alloc, key, value)?;
     let at = TableKey::of(alloc, &write)?;
@@ -106,24 +108,25 @@ fn insert(
     })
 }
 
-/// SELECT K FROM KV WHERE K is above a number.
+/// SELECT K FROM KV WHERE K is above a number. The format doesn't matter.
 fn keys_above(
     alloc: Global,
     number: i64,
     history: &[Entry],
     write_set: &[Write],
 ) -> Result<Outcome, AllocError>
-    ensures { IfOk result
-        (IsOutcomeOf (statement_of (Form.KeysAbove number)) history.now write_set.now) }
+    ensures { (format : ℕ) → IfOk result
+        (IsOutcomeOf (statement_of (Form.KeysAbove number)) history.now write_set.now format) }
 {
     let range = kv_above(alloc, number);
     let rows = rows_in(alloc, history, write_set, &range)?;
     let found = first_values(alloc, &rows)?;
     let reads = vec![in alloc; kv_in_dictionary(alloc)?, range]?;
+    let reads = Frozen::from_vec(reads);
     Ok(Outcome {
         reply: Reply::Rows(found),
         writes: Frozen::empty(alloc),
-        reads: Frozen::from_vec(reads),
+        reads,
     })
 }
 

@@ -3,7 +3,8 @@ ghost use Rattle.std.specs.Prelude.{◌≡◌, [], ◌∷◌, codes, IfOk};
 ghost use Rattle.odb_values.specs.declared.value.Value.TheVariants.{Int};
 ghost use Rattle.odb_model.specs.Table.{kv};
 ghost use Rattle.odb_model.specs.Meaning.{put_of};
-ghost use Rattle.odb_model.specs.Reads.{dictionary_row, point_of, range_of};
+ghost use Rattle.odb_model.specs.Where.{range_of};
+ghost use Rattle.odb_model.specs.Reads.{point, dictionary_row};
 ghost use Rattle.odb_plain.specs.Form.{pair_of, key_above};
 
 use odb_model::Write;
@@ -36,7 +37,7 @@ pub(crate) fn kv_write(alloc: Global, key: i64, value: i64) -> Result<Write, All
 
 /// The range of one key of KV.
 pub(crate) fn kv_point(alloc: Global, key: i64) -> Result<Range, AllocError>
-    ensures { IfOk result (λ range. range ≡ point_of kv (Int key ∷ [])) }
+    ensures { IfOk result (λ range. range ≡ point 5 (Int key ∷ [])) }
 {
     Ok(Range {
         table: KV,

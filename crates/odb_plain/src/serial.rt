@@ -18,8 +18,8 @@ pub struct SerialRun {
     pub net: Writes,
 }
 
-/// Runs the statements of a transaction one after another on the rows that a history leaves.
-/// [`crate::is_built`] is the test of the condition on each statement. The history stays as it is.
+/// Runs the statements of a transaction one after another on the rows that a history leaves, in a
+/// database of this format. [`crate::is_built`] is the test of the condition on each statement. The history stays as it is.
 ///
 /// It costs what [`execute`] costs for each statement, and what [`net_writes`] costs once. The
 /// error is want of memory.
@@ -27,12 +27,13 @@ pub fn alone(
     alloc: Global,
     statements: &[Statement],
     history: &[Entry],
+    format: u16,
 ) -> Result<SerialRun, AllocError>
     requires { All (λ statement. IsTrue (is_built statement)) statements.now }
     ensures replies { IfOk result
-        (λ run. run.replies ≡ (alone statements.now (replay history.now)).replies) }
+        (λ run. run.replies ≡ (alone statements.now (replay history.now) format).replies) }
     ensures net { IfOk result
-        (λ run. run.net ≡ (alone statements.now (replay history.now)).net) }
+        (λ run. run.net ≡ (alone statements.now (replay history.now) format).net) }
 {
     let mut replies = List::new(alloc);
     let mut write_set = List::new(alloc);
@@ -41,7 +42,7 @@ pub fn alone(
             reply,
             writes,
             reads: _,
-        } = execute(alloc, statement, history, write_set.as_slice())?;
+        } = execute(alloc, statement, history, write_set.as_slice(), format)?;
         replies.reserve()?;
         replies.push(reply);
         write_set.append(writes)?;

@@ -49,7 +49,7 @@ abbrev tells : Answer → Machine → Type 0
 tells answer m = (k : ℕ) → answer.reply ≡ Committed k → k ≤ length m.history
 
 tells_now : (m : Machine) (answer : Answer) → lawful m answer → tells answer answer.after
-tells_now m answer law k is = committed_within answer.risen answer.reply answer.after k (answer_leaves law.0 m answer law.1).1 is
+tells_now m answer law k is = committed_within answer.seen answer.reply answer.after k (answer_leaves law.0 m answer law.1).1 is
 
 tells_later : (answer : Answer) (m n : Machine) → GoesOn m n → tells answer m → tells answer n
 tells_later answer m n goes told k is = omega (arith, told k is, goes.history)

@@ -9,7 +9,7 @@ use Rattle.odb_device.specs.Images.{EachImage}
 use Rattle.odb_device.specs.Counts.{Adds}
 use Rattle.odb_device.specs.Console.{Talks, Says, SaysNothing, SaysOnly}
 use Rattle.odb_device.specs.Moments.{Runs}
-use Rattle.odb_device.specs.Steps.{Steps, Files, IsAsIn, IsQuiet}
+use Rattle.odb_device.specs.Steps.{Steps, IsQuiet}
 use Rattle.odb_device.proofs.Stretches.{steps_of_talks}
 use Rattle.odb_device.proofs.Talking.{adds_none, talks_none, talks_files, says_both}
 use Rattle.odb_kept.specs.Kept.{KeptByEither}
@@ -17,15 +17,15 @@ use Rattle.odb_kept.specs.Running.{machine_after as after_all, IsRunning}
 use Rattle.odb_kept.proofs.Running.{answered, goes_on, goes_on_silently, run_none, run_then, stepped, steps_behind}
 use Rattle.odb_model.specs.declared.reply.Head.{Head}
 use Rattle.odb_model.specs.declared.reply.Reply.{Reply}
-use Rattle.odb_model.specs.declared.reply.Reply.TheVariants.{Okay, Rows, Done, Committed, Ended, InDoubt, Character, Text, Number, Syntax, End, Long, Line, NoSession, NotYet, NoTransaction, InTransaction, Duplicate, TooManyWrites, Halted, Conflict, Full, Fault, Memory}
+use Rattle.odb_model.specs.declared.reply.Reply.TheVariants.{Okay, Rows, Done, Committed, Ended, InDoubt, Character, Text, Number, Syntax, End, Long, Line, NoSession, NotYet, NoTransaction, InTransaction, NoTable, NoColumn, KindMismatch, KeyColumn, ColumnCount, Duplicate, NullNotAllowed, TooLong, KeyTooWide, RowTooWide, TooManyWrites, Overflow, Halted, Conflict, Full, Fault, Memory}
 use Rattle.odb_model.specs.Machine.{Machine}
 use Rattle.odb_model.specs.Print.{head_text, line_of, row_line, reply_text}
 use Rattle.odb_model.specs.Play.{Answer, text_of_answer, said_by, machine_after}
 use Rattle.odb_reply.specs.Telling.{TellsAlone}
 use Rattle.odb_system.specs.Kept.{OpensBy, IsKept, Rests}
 use Rattle.odb_play.specs.Outside.{LeavesOthers, TouchesOnly}
-use Rattle.odb_play.specs.Part.{after_of, IsCaused, Causes, TellAlone, IsHeard, IsPart, IsWhole}
-use Rattle.odb_play.proofs.Outside.{passes, causes_then, causes_one, touches_run, touches_talks, touches_then}
+use Rattle.odb_play.specs.Part.{after_of, IsCaused, Causes, CausesOfSaid, TellAlone, IsHeard, IsPart, IsWhole}
+use Rattle.odb_play.proofs.Outside.{passes, causes_then, causes_then_said, causes_anyhow, causes_quiet, causes_one, causes_one_said, touches_run, touches_talks, touches_then}
 
 pub said_by-append : (xs ys : List Answer) → said_by (xs ++ ys) ≡ said_by xs ++ said_by ys
 said_by-append xs ys = flat_map-append text_of_answer xs ys
@@ -79,8 +79,18 @@ reply_said head NoSession = line_said head (codes "REFUSED NOSESSION")
 reply_said head NotYet = line_said head (codes "REFUSED NOTYET")
 reply_said head NoTransaction = line_said head (codes "REFUSED NOTRANSACTION")
 reply_said head InTransaction = line_said head (codes "REFUSED INTRANSACTION")
+reply_said head NoTable = line_said head (codes "REFUSED NOTABLE")
+reply_said head NoColumn = line_said head (codes "REFUSED NOCOLUMN")
+reply_said head KindMismatch = line_said head (codes "REFUSED KINDMISMATCH")
+reply_said head KeyColumn = line_said head (codes "REFUSED KEYCOLUMN")
+reply_said head ColumnCount = line_said head (codes "REFUSED COLUMNCOUNT")
 reply_said head Duplicate = line_said head (codes "REFUSED DUPLICATE")
+reply_said head NullNotAllowed = line_said head (codes "REFUSED NULLNOTALLOWED")
+reply_said head TooLong = line_said head (codes "REFUSED TOOLONG")
+reply_said head KeyTooWide = line_said head (codes "REFUSED KEYTOOWIDE")
+reply_said head RowTooWide = line_said head (codes "REFUSED ROWTOOWIDE")
 reply_said head TooManyWrites = line_said head (codes "REFUSED TOOMANYWRITES")
+reply_said head Overflow = line_said head (codes "REFUSED OVERFLOW")
 reply_said head (Halted k) = line_said head (codes "REFUSED HALTED " ++ decimal k)
 reply_said head (Conflict j) = line_said head (codes "REFUSED CONFLICT " ++ decimal j)
 reply_said head (Full need room) = line_said head (codes "REFUSED FULL " ++ decimal need ++ codes " " ++ decimal room)
@@ -117,7 +127,7 @@ whole_then m xs ys old mid new first second =
     let last : machine_after (machine_after m xs) ys ≡ machine_after m (xs ++ ys) = sym (machine_after-append m xs ys) in
     record {
       only = touches_then 0 old mid new first.only second.only;
-      causes = causes_then m xs ys old mid new first.causes second.causes;
+      causes = causes_then_said m xs ys old mid new first.causes second.causes;
       alone = alone_append xs ys first.alone second.alone;
       running = subst (λ (x : Machine). IsRunning IsKept after_of text_of_answer m m (xs ++ ys) x old new) last
           (run_then IsKept after_of text_of_answer m m xs ys (machine_after m xs) (machine_after (machine_after m xs) ys) old mid new audible first.running second.running);
@@ -128,7 +138,7 @@ whole_then m xs ys old mid new first second =
 pub part_of_whole : (m : Machine) (answers : List Answer) (old new : World) → IsWhole m answers old new → IsPart m answers old new
 part_of_whole m answers old new whole = record {
   only = whole.only;
-  causes = whole.causes;
+  causes = causes_anyhow m answers old new whole.causes;
   heard = record {
     told = answers;
     untold = [];
@@ -156,7 +166,7 @@ rests_talks m old new talks rests = rests_still m (present old) (present new) (t
 pub whole_quiet : (m : Machine) (old new : World) → Rests m (present old) → Talks old new → SaysNothing old new → IsWhole m [] old new
 whole_quiet m old new rests talks silent = record {
   only = touches_talks 0 old new talks;
-  causes = passes (Files (IsAsIn old)) old new (steps_of_talks old new talks);
+  causes = causes_quiet m old new (steps_of_talks old new talks) silent;
   alone = tt;
   running = goes_on_silently IsKept after_of text_of_answer m m [] m old old new (run_none IsKept after_of text_of_answer m old rests.keeps) (steps_of_talks old new talks) silent;
   rests = rests_talks m old new talks rests;
@@ -183,7 +193,11 @@ module _ (m : Machine) (answer : Answer) (P : Option File → Type 0) (old mid :
 
   causes_step : (new : World) → Talks mid new → Causes m (answer ∷ []) old new
   causes_step new talks =
-      causes_one m answer old mid new (passes (LeavesOthers 0 old) old mid only_step) cause (passes (Files (IsAsIn mid)) mid new (steps_of_talks mid new talks))
+      causes_one m answer old mid new (passes (LeavesOthers 0 old) old mid only_step) quiet cause (steps_of_talks mid new talks)
+
+  causes_said : (new : World) → Talks mid new → Says (text_of_answer answer) mid new → CausesOfSaid m (answer ∷ []) old new
+  causes_said new talks said =
+      causes_one_said m answer old mid new (passes (LeavesOthers 0 old) old mid only_step) quiet cause (steps_of_talks mid new talks) said
 
   -- its text was not said
   pub line_untold : IsPart m (answer ∷ []) old mid
@@ -223,7 +237,7 @@ module _ (m : Machine) (answer : Answer) (P : Option File → Type 0) (old mid :
     pub line_whole : Says (text_of_answer answer) mid new → IsWhole m (answer ∷ []) old new
     line_whole said = record {
       only = only_line;
-      causes = causes_step new says.talks;
+      causes = causes_said new says.talks said;
       alone = (alone, tt);
       running = goes_on IsKept after_of text_of_answer m m [] m answer old old mid new audible begun keeps quiet rests.keeps says said;
       rests = rests_talks answer.after mid new says.talks rests;

@@ -21,7 +21,7 @@ use Rattle.odb_play.specs.declared.player.Stop.TheVariants.{WriteFault, NoMemory
 use Rattle.odb_play.specs.Outside.{RoseBy}
 use Rattle.odb_play.specs.Part.{Causes, IsPart, IsWhole}
 use Rattle.odb_play.specs.Played.{IsAt, StopsSaying, StopsForMemory, BytesEnd, FinishEnds, EndsWith, status_of, IsPlayedOn}
-use Rattle.odb_play.proofs.Outside.{causes_rise, causes_count}
+use Rattle.odb_play.proofs.Outside.{causes_rise, causes_count, causes_anyhow}
 use Rattle.odb_play.proofs.Steps.{run_tells}
 use Rattle.odb_play.proofs.Parts.{said_by-append, whole_part, whole_then, part_of_whole, whole_none, whole_resting, rests_talks}
 use Rattle.odb_play.proofs.Ends.{first_of_all, stops_saying_longer, stops_memory_longer}
@@ -114,8 +114,8 @@ module _ (m : Machine) (answered : AnsweredFromSnapshots m) (start mid new : Wor
               stops.broken.unsaid,
             ),
           );
-          causes = part.causes;
         };
+        causes = part.causes;
         heard = part.heard;
         kept = part.kept;
       }
@@ -146,8 +146,8 @@ module _ (m : Machine) (answered : AnsweredFromSnapshots m) (start mid new : Wor
               refl,
             ),
           );
-          causes = part.causes;
         };
+        causes = part.causes;
         heard = part.heard;
         kept = part.kept;
       }
@@ -167,8 +167,8 @@ all_played m answers start new status input whole takes ends =
         takes = takes;
         says = whole.running.says;
         ends = ends;
-        causes = whole.causes;
       };
+      causes = part.causes;
       heard = part.heard;
       kept = part.kept;
     }
@@ -241,7 +241,7 @@ module _ (m : Machine) (answered : AnsweredFromSnapshots m) (held : Held) (kept 
       all_played m playing.answers start new ReadFault playing.input whole (taken_still playing.input start now new playing.takes still) (
         still.1 ∙ playing.ended,
         subst (λ (n : ℕ). n ≤ most_input) (sym playing.count) few,
-        (plays m (ended_lines playing.input) playing.answers start new answered playing.at.run whole.causes, refl),
+        (plays m (ended_lines playing.input) playing.answers start new answered playing.at.run (causes_anyhow m playing.answers start new whole.causes), refl),
       )
 
   -- there is more input than a script may have
@@ -254,7 +254,7 @@ module _ (m : Machine) (answered : AnsweredFromSnapshots m) (held : Held) (kept 
       (adds_then playing.input byte start.talk.taken now.talk.taken new.talk.taken playing.takes took.takes) (
         length-append playing.input byte ∙ ap (λ n. n + length byte) (playing.count ∙ full) ∙ ap (λ n. most_input + n) one,
         subst (λ (x : List ℕ). SaysAll (RoseBy start new) m (ended_lines x) playing.answers (said_by playing.answers)) (sym front)
-            (plays m (ended_lines playing.input) playing.answers start new answered playing.at.run whole.causes, refl),
+            (plays m (ended_lines playing.input) playing.answers start new answered playing.at.run (causes_anyhow m playing.answers start new whole.causes), refl),
       )
 
   -- the input has ended
@@ -279,7 +279,7 @@ module _ (m : Machine) (answered : AnsweredFromSnapshots m) (held : Held) (kept 
         let all : List Answer = playing.answers ++ ends.0 in
         let whole : IsWhole m all start new = whole_then m playing.answers ends.0 start mid new (taking mid talks nothing) ends.2 in
         all_played m all start new Done playing.input whole last_takes
-        (last_ended, last_few, (plays m (all_lines playing.input) all start new answered ends.1 whole.causes, refl))
+        (last_ended, last_few, (plays m (all_lines playing.input) all start new answered ends.1 (causes_anyhow m all start new whole.causes), refl))
 
     -- by the status
     pub ends_any : (status : Status) → EndsWith m playing.input playing.answers status mid new → IsPlayedOn m status start new

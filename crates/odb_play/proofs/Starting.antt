@@ -1,12 +1,13 @@
 -- What an opening leaves, and a play behind it.
-use Rattle.std.proofs.Common.{◌≡◌, ◌⊎◌, inl, inr, ℕ, ◌+◌, ◌-◌, Bool, false, List, [], length, drop, Option, Some, None, refl, sym, ◌∙◌, ap, subst, arith}
+use Rattle.std.proofs.Common.{◌≡◌, ◌≢◌, ◌⊎◌, inl, inr, ℕ, ◌+◌, ◌-◌, Bool, false, List, [], length, drop, Option, Some, None, refl, sym, ◌∙◌, ap, subst, arith}
 use Rattle.std.specs.Prelude.{IsSome, IfSome, is_some, take}
 use Rattle.odb_device.specs.World.{File, Talk, World, present, file_of}
 use Rattle.odb_device.specs.Images.{EachImage, ReadsImage}
 use Rattle.odb_device.specs.Counts.{Adds}
+use Rattle.odb_device.specs.Calls.{Keeps}
 use Rattle.odb_device.specs.Moments.{Runs}
 use Rattle.odb_device.specs.Steps.{Steps}
-use Rattle.odb_device.proofs.Time.{weakens}
+use Rattle.odb_device.proofs.Time.{changes_count, weakens}
 use Rattle.odb_device.proofs.Stretches.{steps_of_run}
 use Rattle.odb_kept.specs.Kept.{KeptBy}
 use Rattle.odb_kept.proofs.Keeping.{step_within}
@@ -25,17 +26,20 @@ use Rattle.odb_pair.specs.Places.{gate}
 use Rattle.odb_transdb.specs.Opened.{Opened, no_database, holding, opened, entries_of, entries_in}
 use Rattle.odb_transdb.specs.Standing.{Db, Stands, IsPlaced}
 use Rattle.odb_transdb.specs.Answers.{KeepsOpened}
-use Rattle.odb_system.specs.Held.{Held, StandsFor, Begins, side_of}
+use Rattle.odb_transdb.specs.Worlds.{OpensAsBefore, OnlyClosesGates, HasClosedGates}
+use Rattle.odb_transdb.specs.declared.error.TransdbError.{TransdbError}
+use Rattle.odb_transdb.specs.declared.error.TransdbError.TheVariants.{NoDatabase as NoPair, Damaged as BadBytes, Full, FaultBefore, InDoubt, Fault, NoMemory as NoRoom}
+use Rattle.odb_system.specs.Held.{Held, StandsFor, Begins, sides_of}
 use Rattle.odb_system.specs.Durable.{IsDurableBy}
 use Rattle.odb_system.specs.Kept.{OpensBy, IsKept, Rests}
 use Rattle.odb_system.proofs.Keeping.{rests_durable}
-use Rattle.odb_play.specs.Outside.{LeavesOthers, RoseBy}
+use Rattle.odb_play.specs.Outside.{RoseBy}
 use Rattle.odb_play.specs.Crash.{IsFound, KeepsAtEntry, SurvivesCrashes, LosesNoCommit}
 use Rattle.odb_play.specs.Part.{after_of, Along, IsHeard}
 use Rattle.odb_play.specs.Played.{IsPlayed, IsPlayedOn}
-use Rattle.odb_play.specs.Started.{IsStarted, RefusesOpening}
+use Rattle.odb_play.specs.Started.{IsStarted, RefusesOpening, status_of}
 use Rattle.odb_play.specs.Opening.{HoldsFrom, IsOpeningOf, IsPlayedFrom, IsRefused, PlayOutcome}
-use Rattle.odb_play.proofs.Outside.{passes, causes_earlier, touches_run, touches_then, rose_by_wider, rise_wider}
+use Rattle.odb_play.proofs.Outside.{touches_run, touches_then, rose_by_wider, rise_wider}
 use Rattle.odb_play.proofs.Parts.{audible}
 use Rattle.odb_play.proofs.Commits.{loses_none}
 
@@ -93,7 +97,7 @@ kept_opened entry before image same kept = record {
 }
   where
     opens_same : (es : List Entry) → OpensBy entry es before → OpensBy entry es image
-    opens_same es opens = record { header = opens.header; side = opens.side; first = opens.first; holds = same ∙ opens.holds }
+    opens_same es opens = record { header = opens.header; format = opens.format; sides = opens.sides; first = opens.first; holds = same ∙ opens.holds }
 
 keeps_opened : (entry : Machine) (old now : Option File) → EachImage (IsKept entry 0) old → KeepsOpened old now → EachImage (IsKept entry 0) now
 keeps_opened entry None now each keeps = subst (EachImage (IsKept entry 0)) (sym keeps) tt
@@ -115,16 +119,16 @@ told_log entry old keeps = elim (keeps.told 0) as (λ w. IsSome (file_of 0 old))
   | inr all ↦ absurd (elim ((all []).log refl) as (λ w. ⊥) [ inl now ↦ opens_nothing now.header entry.history now.holds | inr more ↦ opens_nothing more.header (history_or_more entry) more.holds ])
 ]
 
-found_by : (entry : Machine) (h : Header) (es : List Entry) (bytes : List ℕ) → opened bytes ≡ holding h es → IsKept entry 0 bytes → IsFound entry (first_machine (side_of h) es)
-found_by entry h es bytes read kept = elim (kept.log refl) as (λ w. IsFound entry (first_machine (side_of h) es)) [
-  | inl now ↦ let same = one_reading now.header entry.history now.holds in record { side = ap side_of same.0 ∙ sym now.side; history = inl same.1 }
-  | inr more ↦ let same = one_reading more.header (history_or_more entry) more.holds in record { side = ap side_of same.0 ∙ sym more.side; history = inr same.1 }
+found_by : (entry : Machine) (h : Header) (es : List Entry) (bytes : List ℕ) → opened bytes ≡ holding h es → IsKept entry 0 bytes → IsFound entry (first_machine h.format (sides_of h) es)
+found_by entry h es bytes read kept = elim (kept.log refl) as (λ w. IsFound entry (first_machine h.format (sides_of h) es)) [
+  | inl now ↦ let same = one_reading now.header entry.history now.holds in record { format = ap (λ (x : Header). x.format) same.0 ∙ sym now.format; sides = ap sides_of same.0 ∙ sym now.sides; history = inl same.1 }
+  | inr more ↦ let same = one_reading more.header (history_or_more entry) more.holds in record { format = ap (λ (x : Header). x.format) same.0 ∙ sym more.format; sides = ap sides_of same.0 ∙ sym more.sides; history = inr same.1 }
 ]
   where
     one_reading : (g : Header) (gs : List Entry) → opened bytes ≡ holding g gs → (h ≡ g) × (es ≡ gs)
     one_reading g gs other = let both : holding h es ≡ holding g gs = sym read ∙ other in ((let x : h ≡ g = cc in x), (let y : es ≡ gs = cc in y))
 
-pub found_read : (entry : Machine) (h : Header) (es : List Entry) (o : Option File) → IsSome o → EachImage (IsKept entry 0) o → ReadsImage o → IfSome o (λ f. opened f.bytes ≡ holding h es) → IsFound entry (first_machine (side_of h) es)
+pub found_read : (entry : Machine) (h : Header) (es : List Entry) (o : Option File) → IsSome o → EachImage (IsKept entry 0) o → ReadsImage o → IfSome o (λ f. opened f.bytes ≡ holding h es) → IsFound entry (first_machine h.format (sides_of h) es)
 found_read entry h es None told each reads opens = cc
 found_read entry h es (Some f) told each reads opens = found_by entry h es f.bytes opens (each f.bytes reads)
 
@@ -147,8 +151,7 @@ module _ (m : Machine) (status : Status) (old mid new : World) (run : Runs 0 (Ke
     says = subst (λ (o : Option (List ℕ)). Adds behind.output o (present new).said) silent behind.says;
     ends = subst (λ (t : Talk). PlayEnds (RoseBy old new) m status t.has_ended new.talk.has_ended behind.input behind.answers behind.output) run.only.talk
         (ends_wider (RoseBy mid new) (RoseBy old new) m status mid.talk.has_ended new.talk.has_ended behind.input behind.answers behind.output
-        (λ file n rose. rose_by_wider old mid new new file n (run.only.faults file) (omega arith) rose) behind.ends);
-    causes = causes_earlier m behind.answers old mid new (passes (LeavesOthers 0 old) old mid (touches_run 0 (KeepsOpened (file_of 0 old)) old mid run)) behind.causes;
+        (λ file n rose. rose_by_wider old mid new new file n (changes_count 0 old mid run.only file) (omega arith) rose) behind.ends);
   }
 
   -- while the files are opened the machine at entry keeps them
@@ -184,25 +187,32 @@ module _ (m : Machine) (status : Status) (old mid new : World) (run : Runs 0 (Ke
 
 -- what was opened, as it is told of
 played_opens : (held : Held) (file : Option File) → IfSome file (λ f. opened f.bytes ≡ holding held.transdb.header held.history)
-    → first_held held.transdb.header ≡ 1 → IfSome file (λ f. HoldsFrom (side_of held.transdb.header) held.history (opened f.bytes))
+    → first_held held.transdb.header ≡ 1 → IfSome file (λ f. HoldsFrom held.transdb.header.format (sides_of held.transdb.header) held.history (opened f.bytes))
 played_opens held None opens whole = tt
-played_opens held (Some f) opens whole = (held.transdb.header, opens, refl, whole)
+played_opens held (Some f) opens whole = (held.transdb.header, opens, refl, refl, whole)
 
 -- the files rest behind it
-pub rests_started : (held : Held) (old mid : World) → IsStarted held old mid → Rests (first_machine (side_of held.transdb.header) held.history) (present mid)
-rests_started held old mid started = rests_durable held (first_machine (side_of held.transdb.header) held.history) started.stands started.whole (present mid) started.durable
+pub rests_started : (held : Held) (old mid : World) → IsStarted held old mid → Rests (first_machine held.transdb.header.format (sides_of held.transdb.header) held.history) (present mid)
+rests_started held old mid started = rests_durable held (first_machine held.transdb.header.format (sides_of held.transdb.header) held.history) started.stands started.whole (present mid) started.durable
 
-pub played_from : (held : Held) (status : Status) (old mid new : World) → Runs 0 (KeepsOpened (file_of 0 old)) old mid → ReadsImage (file_of 0 old) → IsStarted held old mid
-    → IsPlayedOn (first_machine (side_of held.transdb.header) held.history) status mid new → IsPlayedFrom status old new
+pub played_from : (held : Held) (status : Status) (old mid new : World) → Runs 0 (KeepsOpened (file_of 0 old)) old mid → OnlyClosesGates old mid → ReadsImage (file_of 0 old) → IsStarted held old mid
+    → IsPlayedOn (first_machine held.transdb.header.format (sides_of held.transdb.header) held.history) status mid new → IsPlayedFrom status old new
 unfolding played_behind
-played_from held status old mid new run reads started played =
-    let m : Machine = first_machine (side_of held.transdb.header) held.history in
+played_from held status old mid new run gates reads started played =
+    let m : Machine = first_machine held.transdb.header.format (sides_of held.transdb.header) held.history in
     let rests : Rests m (present mid) = rests_started held old mid started in
     record {
-      side = side_of held.transdb.header;
+      format = held.transdb.header.format;
+      sides = sides_of held.transdb.header;
       entries = held.history;
       opens = played_opens held (file_of 0 old) started.opens started.whole;
       played = played_behind m status old mid new run rests played;
+      begun = mid;
+      opening = run;
+      gates = gates;
+      resting = rests;
+      behind = played.causes;
+      kept = played.kept;
       crash = survives m status old mid new run rests played
           (λ entry keeps. found_read entry held.transdb.header held.history (file_of 0 old) (told_log entry old keeps) (keeps.keeps 0) reads started.opens);
       commits = loses m status old mid new run rests played;
@@ -223,7 +233,7 @@ outcome_played Exists old new from = absurd from.played.ends
 outcome_played (Damaged file at) old new from = absurd from.played.ends
 outcome_played (NotHeld bank mark first) old new from = absurd from.played.ends
 
-pub outcome_refused : (status : Status) (old new : World) → RefusesOpening status → IsRefused old new → PlayOutcome status old new
+pub outcome_refused : (status : Status) (old new : World) → RefusesOpening status → IsRefused status old new → PlayOutcome status old new
 outcome_refused NoMemory old new refusal refused = inl refused
 outcome_refused (FileFault file) old new refusal refused = refused
 outcome_refused NoDatabase old new refusal refused = refused
@@ -282,12 +292,12 @@ holds_read h es None (Some g) told opens same = absurd (cc told)
 holds_read h es (Some f) (Some g) told opens same = same ∙ ap entries_of opens
 
 pub started_with : (held : Held) (db : Db) (es : List Entry) (old new : World) → Runs 0 (KeepsOpened (file_of 0 old)) old new → IfSome (file_of 0 old) (λ f. opened f.bytes ≡ holding db.header es)
-    → entries_in (file_of 0 new) ≡ entries_in (file_of 0 old) → Stands db (file_of 0 new) → first_held db.header ≡ 1 → StandsFor held (first_machine (side_of db.header) es) → held.history ≡ es → held.transdb ≡ db → IsStarted held old new
+    → entries_in (file_of 0 new) ≡ entries_in (file_of 0 old) → Stands db (file_of 0 new) → first_held db.header ≡ 1 → StandsFor held (first_machine db.header.format (sides_of db.header) es) → held.history ≡ es → held.transdb ≡ db → IsStarted held old new
 started_with held db es old new run opens same stands whole is history transdb =
     let got : IfSome (file_of 0 new) (λ f. entries_in (Some f) ≡ es) = holds_read db.header es (file_of 0 old) (file_of 0 new) (run.only.told new.time run.only.later (omega arith)) opens same in
     record {
-      stands = subst (λ (d : Db). StandsFor held (first_machine (side_of d.header) held.history)) (sym transdb)
-          (subst (λ (x : List Entry). StandsFor held (first_machine (side_of db.header) x)) (sym history) is);
+      stands = subst (λ (d : Db). StandsFor held (first_machine d.header.format (sides_of d.header) held.history)) (sym transdb)
+          (subst (λ (x : List Entry). StandsFor held (first_machine db.header.format (sides_of db.header) x)) (sym history) is);
       durable = subst (λ d. IsDurableBy d held (file_of 0 new)) (sym is.in_doubt) (
         subst (λ (d : Db). Stands d (file_of 0 new)) (sym transdb) stands,
         subst (λ (x : List Entry). IfSome (file_of 0 new) (λ f. entries_in (Some f) ≡ x)) (sym history) got,
@@ -296,3 +306,17 @@ started_with held db es old new run opens same stands whole is history transdb =
           (subst (λ (x : List Entry). IfSome (file_of 0 old) (λ f. opened f.bytes ≡ holding db.header x)) (sym history) opens);
       whole = ap (λ (d : Db). first_held d.header) transdb ∙ whole;
     }
+
+-- what a refusal of the log leaves, by the status that it gives
+pub refused_with : (error : TransdbError) (old new : World) → OpensAsBefore old new → OnlyClosesGates old new → (error ≢ Fault → HasClosedGates old new) → (error ≡ NoPair → Keeps 0 old new) → IsRefused (status_of error) old new
+refused_with NoPair old new run bytes closed nothing = record { run = run; bytes = bytes; closed = λ never. closed (λ same. absurd (cc same)); nothing = λ same. nothing refl }
+refused_with (BadBytes at) old new run bytes closed nothing = record { run = run; bytes = bytes; closed = λ never. closed (λ same. absurd (cc same)); nothing = λ same. absurd (cc same) }
+refused_with NoRoom old new run bytes closed nothing = record { run = run; bytes = bytes; closed = λ never. closed (λ same. absurd (cc same)); nothing = λ same. absurd (cc same) }
+refused_with Fault old new run bytes closed nothing = record { run = run; bytes = bytes; closed = λ never. absurd (never 0 refl); nothing = λ same. absurd (cc same) }
+refused_with FaultBefore old new run bytes closed nothing = record { run = run; bytes = bytes; closed = λ never. absurd (never 0 refl); nothing = λ same. absurd (cc same) }
+refused_with (Full need room) old new run bytes closed nothing = record { run = run; bytes = bytes; closed = λ never. absurd (never 0 refl); nothing = λ same. absurd (cc same) }
+refused_with (InDoubt number) old new run bytes closed nothing = record { run = run; bytes = bytes; closed = λ never. absurd (never 0 refl); nothing = λ same. absurd (cc same) }
+
+-- and a refusal behind an opening
+pub refused_behind : (status : Status) (old new : World) → OpensAsBefore old new → OnlyClosesGates old new → HasClosedGates old new → status ≢ NoDatabase → IsRefused status old new
+refused_behind status old new run bytes closed other = record { run = run; bytes = bytes; closed = λ never. closed; nothing = λ same. absurd (other same) }

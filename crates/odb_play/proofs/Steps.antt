@@ -8,18 +8,22 @@ use Rattle.odb_model.specs.declared.entry.Entry.{Entry}
 use Rattle.odb_model.specs.declared.event.Event.{Event}
 use Rattle.odb_model.specs.declared.event.Event.TheVariants.{Session as OfSession, Control as Upkeep}
 use Rattle.odb_model.specs.declared.reply.Head.{Head}
-use Rattle.odb_model.specs.declared.reply.Head.TheVariants.{Session, Control, Unknown}
+use Rattle.odb_model.specs.declared.reply.Head.TheVariants.{Session as HeadOf, Control, Unknown}
 use Rattle.odb_model.specs.declared.reply.Reply.{Reply}
 use Rattle.odb_model.specs.declared.reply.Reply.TheVariants.{Okay, Committed, Ended, InDoubt, NotYet, NoTransaction, InTransaction, Halted, Conflict, Full, Fault, Memory}
 use Rattle.odb_model.specs.declared.statement.Statement.{Statement}
 use Rattle.odb_model.specs.declared.statement.Statement.TheVariants.{Start, Commit, Select, Insert, Rollback, Update, Delete, CreateDatabank, CreateTable, DropTable, CreateShadow, ShadowOnline, ShadowOffline, ShadowMaster, DropShadow, CreateBackup, BackupReady, DropBackup, Restore}
-use Rattle.odb_model.specs.State.{after_writes, replay}
+use Rattle.odb_model.specs.State.{replay}
 use Rattle.odb_model.specs.Meaning.{is_built}
-use Rattle.odb_model.specs.Transaction.{Executed, write_set_of, table_keys}
-use Rattle.odb_model.specs.Machine.{Machine, with_session, with_doubt, history_or_more, executed_now, net_of, next_entry, with_entry, in_doubt_of, Starts, Executes, Decides, DecidesBy, Commits, Refuses, UpkeepStep, StatementStep, Step}
+use Rattle.odb_model.specs.Transaction.{Executed, open_state, table_keys, net, conflict}
+use Rattle.odb_model.specs.Session.{Session, Idle, Working}
+use Rattle.odb_model.specs.Book.{Book, Seen, by_doubt, next_entry, Decides}
+use Rattle.odb_model.specs.Book as book
+use Rattle.odb_model.specs.Machine.{Machine, with_session, book_of, with_book, behind, with_doubt, history_or_more, writes_made, executed_now, Starts, Executes, Commits, Refuses, UpkeepStep, StatementStep, Step}
 use Rattle.odb_model.specs.Script.{IsRefused}
 use Rattle.odb_model.specs.Play.{Answer, IsAnswer, IsRun, tells_fault}
-use Rattle.odb_model.proofs.Runs.{is_meant, not_meant}
+use Rattle.odb_model.proofs.Meant.{is_meant}
+use Rattle.odb_model.proofs.Runs.{not_meant}
 use Rattle.odb_play.proofs.Outside.{TellRisen}
 
 -- the history never gets shorter, and what may be on the disk besides it stays or grows
@@ -62,158 +66,179 @@ history_goes m last goes =
 goes_same : (m after : Machine) → after ≡ m → GoesOn m after
 goes_same m after same = subst (λ (x : Machine). GoesOn m x) (sym same) (goes_none m)
 
-goes_session : (m : Machine) (s : ℕ) (t : Option (List Executed)) (after : Machine) → after ≡ with_session m s t → GoesOn m after
+goes_session : (m : Machine) (s : ℕ) (t : Session) (after : Machine) → after ≡ with_session m s t → GoesOn m after
 goes_session m s t after same = subst (λ (x : Machine). GoesOn m x) (sym same) (record { history = omega arith; more = []; longer = sym (append-nil (history_or_more m)) })
 
-goes_entry : (m : Machine) (s : ℕ) (writes : List Write) → m.in_doubt ≡ None → GoesOn m (with_entry m s writes)
-goes_entry m s writes none =
-    let e : Entry = next_entry m s writes in
-    record {
-      history = omega (arith, length-append m.history (e ∷ []));
-      more = e ∷ [];
-      longer = ap (λ d. with_doubt (m.history ++ e ∷ []) d) none ∙ sym (ap (λ d. with_doubt m.history d ++ e ∷ []) none);
-    }
+-- the history of a book, and that with its entry in doubt, go on from the machine's
+record GoesBook (m : Machine) (b : Book) : Type 0 where
+  history : length m.history ≤ length b.history
+  more : List Entry
+  longer : with_doubt b.history b.in_doubt ≡ history_or_more m ++ more
 
-goes_doubt : (m : Machine) (s : ℕ) (writes : List Write) → m.in_doubt ≡ None → GoesOn m (in_doubt_of m s writes)
-goes_doubt m s writes none = let e : Entry = next_entry m s writes in record { history = omega arith; more = e ∷ []; longer = sym (ap (λ d. with_doubt m.history d ++ e ∷ []) none) }
+book_same : (m : Machine) (b : Book) → b ≡ book_of m → GoesBook m b
+book_same m b same = subst (GoesBook m) (sym same) (record { history = omega arith; more = []; longer = sym (append-nil (history_or_more m)) })
+
+book_entry : (m : Machine) (b : Book) (e : Entry) → m.in_doubt ≡ None → b ≡ book.with_entry (book_of m) e → GoesBook m b
+book_entry m b e none same = subst (GoesBook m) (sym same) (record {
+  history = omega (arith, length-append m.history (e ∷ []));
+  more = e ∷ [];
+  longer = ap (λ d. with_doubt (m.history ++ e ∷ []) d) none ∙ sym (ap (λ d. with_doubt m.history d ++ e ∷ []) none);
+})
+
+book_doubt : (m : Machine) (b : Book) (e : Entry) → m.in_doubt ≡ None → b ≡ book.with_doubted (book_of m) e → GoesBook m b
+book_doubt m b e none same = subst (GoesBook m) (sym same) (record { history = omega arith; more = e ∷ []; longer = sym (ap (λ d. with_doubt m.history d ++ e ∷ []) none) })
+
+-- a machine with that history and entry in doubt
+goes_book : (m after : Machine) (b : Book) → after.history ≡ b.history → after.in_doubt ≡ b.in_doubt → GoesBook m b → GoesOn m after
+goes_book m after b history in_doubt goes = record {
+  history = omega (arith, goes.history, ap length history);
+  more = goes.more;
+  longer = (λ i. with_doubt (history i) (in_doubt i)) ∙ goes.longer;
+}
 
 -- what a reply tells is so: a commit is in the history, and of a fault the count rose
-abbrev pub IsSo : (ℕ → Bool) → Reply → Machine → Type 0
-IsSo risen (Committed k) after = k ≤ length after.history
-IsSo risen (Fault f) after = risen f ≡ true
-IsSo risen (InDoubt k) after = risen 0 ≡ true
-IsSo risen reply after = Unit {0}
+abbrev pub IsSo : Seen → Reply → Machine → Type 0
+IsSo seen (Committed k) after = k ≤ length after.history
+IsSo seen (Fault f) after = seen.rose f ≡ true
+IsSo seen (InDoubt k) after = seen.rose 0 ≡ true
+IsSo seen reply after = Unit {0}
 
-abbrev Leaves : Machine → (ℕ → Bool) → Reply → Machine → Type 0
-Leaves m risen reply after = GoesOn m after × IsSo risen reply after
+abbrev Leaves : Machine → Seen → Reply → Machine → Type 0
+Leaves m seen reply after = GoesOn m after × IsSo seen reply after
 
-leaves_starts : (m : Machine) (s : ℕ) (risen : ℕ → Bool) (o : Option (List Executed)) (reply : Reply) (after : Machine) → Starts m s o reply after → Leaves m risen reply after
-leaves_starts m s risen None Okay after step = (goes_session m s (Some []) after step, tt)
-leaves_starts m s risen None Memory after step = (goes_same m after step, tt)
-leaves_starts m s risen (Some t) Memory after step = (goes_same m after step, tt)
-leaves_starts m s risen (Some t) InTransaction after step = (goes_same m after step, tt)
-leaves_starts m s risen None reply after step = absurd step
-leaves_starts m s risen (Some t) reply after step = absurd step
+leaves_starts : (m : Machine) (s : ℕ) (seen : Seen) (o : Session) (reply : Reply) (after : Machine) → Starts m s o reply after → Leaves m seen reply after
+leaves_starts m s seen Idle Okay after step = (goes_session m s (Working []) after step, tt)
+leaves_starts m s seen Idle Memory after step = (goes_same m after step, tt)
+leaves_starts m s seen (Working t) Memory after step = (goes_same m after step, tt)
+leaves_starts m s seen (Working t) InTransaction after step = (goes_same m after step, tt)
+leaves_starts m s seen Idle reply after step = absurd step
+leaves_starts m s seen (Working t) reply after step = absurd step
 
-not_exchanged : (m : Machine) (st : Statement) (t : List Executed) (r : Reply) → is_meant r ≡ false → r ≡ (executed_now m st t).reply → ⊥
-not_exchanged m st t r other same = not_meant r st (after_writes (replay (take (length m.history) m.history)) (write_set_of m.history t)) (table_keys (write_set_of m.history t)) other same
+not_executed : (m : Machine) (st : Statement) (t : List Executed) (r : Reply) → is_meant r ≡ false → r ≡ (executed_now m st t).reply → ⊥
+not_executed m st t r other same = not_meant r st (open_state (length m.history) (writes_made m t) m.history) (table_keys (writes_made m t)) m.format other same
 
 -- a SELECT or an INSERT tells of no commit and of no fault
-so_executes : (m : Machine) (st : Statement) (t : List Executed) (risen : ℕ → Bool) (reply : Reply) (after : Machine) → reply ≡ (executed_now m st t).reply → IsSo risen reply after
+so_executes : (m : Machine) (st : Statement) (t : List Executed) (seen : Seen) (reply : Reply) (after : Machine) → reply ≡ (executed_now m st t).reply → IsSo seen reply after
 unfolding is_meant
-so_executes m st t risen (Committed k) after same = absurd (not_exchanged m st t (Committed k) refl same)
-so_executes m st t risen (Fault f) after same = absurd (not_exchanged m st t (Fault f) refl same)
-so_executes m st t risen (InDoubt k) after same = absurd (not_exchanged m st t (InDoubt k) refl same)
-so_executes m st t risen reply after same = tt
+so_executes m st t seen (Committed k) after same = absurd (not_executed m st t (Committed k) refl same)
+so_executes m st t seen (Fault f) after same = absurd (not_executed m st t (Fault f) refl same)
+so_executes m st t seen (InDoubt k) after same = absurd (not_executed m st t (InDoubt k) refl same)
+so_executes m st t seen reply after same = tt
 
-leaves_executes : (m : Machine) (s : ℕ) (st : Statement) (risen : ℕ → Bool) (o : Option (List Executed)) (reply : Reply) (after : Machine) → Executes m s st o reply after → Leaves m risen reply after
-leaves_executes m s st risen o Memory after step = (goes_same m after step, tt)
-leaves_executes m s st risen None NoTransaction after step = (goes_same m after step, tt)
-leaves_executes m s st risen None reply after step = absurd step
-leaves_executes m s st risen (Some t) reply after step = (goes_session m s (Some (t ++ executed_now m st t ∷ [])) after step.1, so_executes m st t risen reply after step.0)
+leaves_executes : (m : Machine) (s : ℕ) (st : Statement) (seen : Seen) (o : Session) (reply : Reply) (after : Machine) → Executes m s st o reply after → Leaves m seen reply after
+leaves_executes m s st seen o Memory after step = (goes_same m after step, tt)
+leaves_executes m s st seen Idle NoTransaction after step = (goes_same m after step, tt)
+leaves_executes m s st seen Idle reply after step = absurd step
+leaves_executes m s st seen (Working t) reply after step = (goes_session m s (Working (t ++ executed_now m st t ∷ [])) after step.1, so_executes m st t seen reply after step.0)
 
--- as many as there are, and one more
-one_longer : (m after : Machine) (s k : ℕ) (writes : List Write) → k ≡ length m.history + 1 → after ≡ with_entry m s writes → k ≤ length after.history
-one_longer m after s k writes place same = omega (arith, ap (λ (x : Machine). length x.history) same, length-append m.history (next_entry m s writes ∷ []))
+-- a history with its next entry has as many entries as that one's number
+one_longer : (m : Machine) (b : Book) (e : Entry) (k : ℕ) → k ≡ length m.history + 1 → b ≡ book.with_entry (book_of m) e → k ≤ length b.history
+one_longer m b e k place same = omega (arith, ap (λ (x : Book). length x.history) same, length-append m.history (e ∷ []))
 
-leaves_decides : (m : Machine) (s : ℕ) (risen : ℕ → Bool) (t : List Executed) (reply : Reply) (after : Machine) → m.in_doubt ≡ None → Decides m s risen t reply after → Leaves m risen reply after
-leaves_decides m s risen t (Conflict j) after none step = (goes_session m s None after step.1, tt)
-leaves_decides m s risen t (Ended p) after none step = (goes_session m s None after step.3, tt)
-leaves_decides m s risen t (Full need room) after none step = (goes_same m after step.4, tt)
-leaves_decides m s risen t (Fault f) after none step = (goes_same m after step.4, subst (λ (x : ℕ). risen x ≡ true) (sym step.2) step.3)
-leaves_decides m s risen t (InDoubt k) after none step = (subst (λ (x : Machine). GoesOn m x) (sym step.4) (goes_doubt m s (net_of m t) none), step.3)
-leaves_decides m s risen t (Committed k) after none step = (subst (λ (x : Machine). GoesOn m x) (sym step.3) (goes_entry m s (net_of m t) none), one_longer m after s k (net_of m t) step.2 step.3)
-leaves_decides m s risen t reply after none step = absurd step
+-- COMMIT, by what its verdict is judged by
+leaves_decides : (m : Machine) (s : ℕ) (seen : Seen) (d : Option Entry) (later : Option ℕ) (ws : List Write) (reply : Reply) (b : Book) → m.in_doubt ≡ d
+    → Decides (book_of m) seen s (by_doubt d later (length m.history) ws) reply b → Leaves m seen reply (behind m s reply b)
+leaves_decides m s seen (Some x) later ws (Halted j) b is decides = (goes_book m (with_book m b) b refl refl (book_same m b decides.1), tt)
+leaves_decides m s seen (Some x) later ws reply b is decides = absurd decides
+leaves_decides m s seen None (Some k) ws (Conflict j) b is decides = (goes_book m (with_session (with_book m b) s Idle) b refl refl (book_same m b decides.1), tt)
+leaves_decides m s seen None (Some k) ws reply b is decides = absurd decides
+leaves_decides m s seen None None [] (Ended p) b is decides = (goes_book m (with_session (with_book m b) s Idle) b refl refl (book_same m b decides.1), tt)
+leaves_decides m s seen None None [] reply b is decides = absurd decides
+leaves_decides m s seen None None (w ∷ ws) (Full need room) b is decides = (goes_book m (with_book m b) b refl refl (book_same m b decides.3), tt)
+leaves_decides m s seen None None (w ∷ ws) (Fault f) b is decides =
+    (goes_book m (with_book m b) b refl refl (book_same m b decides.4), subst (λ (x : ℕ). seen.rose x ≡ true) (sym decides.1) decides.2)
+leaves_decides m s seen None None (w ∷ ws) (InDoubt k) b is decides =
+    (goes_book m (with_session (with_book m b) s Idle) b refl refl (book_doubt m b (next_entry (book_of m) s (w ∷ ws)) is decides.4), decides.2)
+leaves_decides m s seen None None (w ∷ ws) (Committed k) b is decides =
+    (goes_book m (with_session (with_book m b) s Idle) b refl refl (book_entry m b (next_entry (book_of m) s (w ∷ ws)) is decides.2), one_longer m b (next_entry (book_of m) s (w ∷ ws)) k decides.1 decides.2)
+leaves_decides m s seen None None (w ∷ ws) reply b is decides = absurd decides
 
-leaves_decides_by : (d : Option Entry) (m : Machine) (s : ℕ) (risen : ℕ → Bool) (t : List Executed) (reply : Reply) (after : Machine) → m.in_doubt ≡ d → DecidesBy d m s risen t reply after → Leaves m risen reply after
-leaves_decides_by None m s risen t reply after is step = leaves_decides m s risen t reply after is step
-leaves_decides_by (Some e) m s risen t (Halted k) after is step = (goes_same m after step.1, tt)
-leaves_decides_by (Some e) m s risen t reply after is step = absurd step
+leaves_commits : (m : Machine) (s : ℕ) (seen : Seen) (o : Session) (reply : Reply) (after : Machine) → Commits m s seen o reply after → Leaves m seen reply after
+leaves_commits m s seen Idle NoTransaction after step = (goes_same m after step, tt)
+leaves_commits m s seen Idle Memory after step = (goes_same m after step, tt)
+leaves_commits m s seen (Working t) Memory after step = (goes_same m after step, tt)
+leaves_commits m s seen Idle reply after step = absurd step
+leaves_commits m s seen (Working t) reply after step =
+    subst (λ (x : Machine). Leaves m seen reply x) (sym step.2)
+    (leaves_decides m s seen m.in_doubt (conflict m.history t m.format) (net (replay m.history) (writes_made m t)) reply step.0 refl step.1)
 
-leaves_commits : (m : Machine) (s : ℕ) (risen : ℕ → Bool) (o : Option (List Executed)) (reply : Reply) (after : Machine) → Commits m s risen o reply after → Leaves m risen reply after
-leaves_commits m s risen None NoTransaction after step = (goes_same m after step, tt)
-leaves_commits m s risen None Memory after step = (goes_same m after step, tt)
-leaves_commits m s risen (Some t) Memory after step = (goes_same m after step, tt)
-leaves_commits m s risen None reply after step = absurd step
-leaves_commits m s risen (Some t) reply after step = leaves_decides_by m.in_doubt m s risen t reply after refl step
+leaves_refuses : (m : Machine) (seen : Seen) (reply : Reply) (after : Machine) → Refuses m reply after → Leaves m seen reply after
+leaves_refuses m seen NotYet after step = (goes_same m after step, tt)
+leaves_refuses m seen Memory after step = (goes_same m after step, tt)
+leaves_refuses m seen reply after step = absurd step
 
-leaves_refuses : (m : Machine) (risen : ℕ → Bool) (reply : Reply) (after : Machine) → Refuses m reply after → Leaves m risen reply after
-leaves_refuses m risen NotYet after step = (goes_same m after step, tt)
-leaves_refuses m risen Memory after step = (goes_same m after step, tt)
-leaves_refuses m risen reply after step = absurd step
-
-leaves_runs : (m : Machine) (s : ℕ) (risen : ℕ → Bool) (st : Statement) (reply : Reply) (after : Machine) → StatementStep m s risen st reply after → Leaves m risen reply after
-leaves_runs m s risen Start reply after step = leaves_starts m s risen (m.sessions s) reply after step
-leaves_runs m s risen Commit reply after step = leaves_commits m s risen (m.sessions s) reply after step
-leaves_runs m s risen (Select what table w) reply after step = leaves_executes m s (Select what table w) risen (m.sessions s) reply after step
-leaves_runs m s risen (Insert table tuples) reply after step = leaves_executes m s (Insert table tuples) risen (m.sessions s) reply after step
-leaves_runs m s risen Rollback reply after step = leaves_refuses m risen reply after step
-leaves_runs m s risen (Update table sets w) reply after step = leaves_refuses m risen reply after step
-leaves_runs m s risen (Delete table w) reply after step = leaves_refuses m risen reply after step
-leaves_runs m s risen (CreateDatabank name) reply after step = leaves_refuses m risen reply after step
-leaves_runs m s risen (CreateTable name columns key bank) reply after step = leaves_refuses m risen reply after step
-leaves_runs m s risen (DropTable name) reply after step = leaves_refuses m risen reply after step
-leaves_runs m s risen (CreateShadow name bank) reply after step = leaves_refuses m risen reply after step
-leaves_runs m s risen (ShadowOnline name) reply after step = leaves_refuses m risen reply after step
-leaves_runs m s risen (ShadowOffline name) reply after step = leaves_refuses m risen reply after step
-leaves_runs m s risen (ShadowMaster name) reply after step = leaves_refuses m risen reply after step
-leaves_runs m s risen (DropShadow name) reply after step = leaves_refuses m risen reply after step
-leaves_runs m s risen (CreateBackup name bank) reply after step = leaves_refuses m risen reply after step
-leaves_runs m s risen (BackupReady name) reply after step = leaves_refuses m risen reply after step
-leaves_runs m s risen (DropBackup name) reply after step = leaves_refuses m risen reply after step
-leaves_runs m s risen (Restore bank name) reply after step = leaves_refuses m risen reply after step
+leaves_runs : (m : Machine) (s : ℕ) (seen : Seen) (st : Statement) (reply : Reply) (after : Machine) → StatementStep m s seen st reply after → Leaves m seen reply after
+leaves_runs m s seen Start reply after step = leaves_starts m s seen (m.sessions s) reply after step
+leaves_runs m s seen Commit reply after step = leaves_commits m s seen (m.sessions s) reply after step
+leaves_runs m s seen (Select what table w) reply after step = leaves_executes m s (Select what table w) seen (m.sessions s) reply after step
+leaves_runs m s seen (Insert table tuples) reply after step = leaves_executes m s (Insert table tuples) seen (m.sessions s) reply after step
+leaves_runs m s seen Rollback reply after step = leaves_refuses m seen reply after step
+leaves_runs m s seen (Update table sets w) reply after step = leaves_refuses m seen reply after step
+leaves_runs m s seen (Delete table w) reply after step = leaves_refuses m seen reply after step
+leaves_runs m s seen (CreateDatabank name) reply after step = leaves_refuses m seen reply after step
+leaves_runs m s seen (CreateTable name columns key bank) reply after step = leaves_refuses m seen reply after step
+leaves_runs m s seen (DropTable name) reply after step = leaves_refuses m seen reply after step
+leaves_runs m s seen (CreateShadow name bank) reply after step = leaves_refuses m seen reply after step
+leaves_runs m s seen (ShadowOnline name) reply after step = leaves_refuses m seen reply after step
+leaves_runs m s seen (ShadowOffline name) reply after step = leaves_refuses m seen reply after step
+leaves_runs m s seen (ShadowMaster name) reply after step = leaves_refuses m seen reply after step
+leaves_runs m s seen (DropShadow name) reply after step = leaves_refuses m seen reply after step
+leaves_runs m s seen (CreateBackup name bank) reply after step = leaves_refuses m seen reply after step
+leaves_runs m s seen (BackupReady name) reply after step = leaves_refuses m seen reply after step
+leaves_runs m s seen (DropBackup name) reply after step = leaves_refuses m seen reply after step
+leaves_runs m s seen (Restore bank name) reply after step = leaves_refuses m seen reply after step
 
 either : (b : Bool) (P Q R : Type 0) → (P → R) → (Q → R) → MatchBool b P Q → R
 either true P Q R f g h = f h
 either false P Q R f g h = g h
 
-leaves_step : (m : Machine) (s : ℕ) (st : Statement) (risen : ℕ → Bool) (reply : Reply) (after : Machine) → Step m (OfSession s st) risen reply after → Leaves m risen reply after
-leaves_step m s st risen reply after step =
-    either (is_built st) (StatementStep m s risen st reply after) (Refuses m reply after) (Leaves m risen reply after) (leaves_runs m s risen st reply after) (leaves_refuses m risen reply after) step
+leaves_step : (m : Machine) (s : ℕ) (st : Statement) (seen : Seen) (reply : Reply) (after : Machine) → Step m (OfSession s st) seen reply after → Leaves m seen reply after
+leaves_step m s st seen reply after step =
+    either (is_built st) (StatementStep m s seen st reply after) (Refuses m reply after) (Leaves m seen reply after) (leaves_runs m s seen st reply after) (leaves_refuses m seen reply after) step
 
-leaves_keeps : (m : Machine) (risen : ℕ → Bool) (reply : Reply) (after : Machine) → UpkeepStep m reply after → Leaves m risen reply after
-leaves_keeps m risen NotYet after step = (goes_same m after step, tt)
-leaves_keeps m risen reply after step = absurd step
+leaves_keeps : (m : Machine) (seen : Seen) (reply : Reply) (after : Machine) → UpkeepStep m reply after → Leaves m seen reply after
+leaves_keeps m seen NotYet after step = (goes_same m after step, tt)
+leaves_keeps m seen reply after step = absurd step
 
-leaves_event : (m : Machine) (event : Event) (risen : ℕ → Bool) (reply : Reply) (after : Machine) → Step m event risen reply after → Leaves m risen reply after
-leaves_event m (OfSession s st) risen reply after step = leaves_step m s st risen reply after step
-leaves_event m (Upkeep control) risen reply after step = leaves_keeps m risen reply after step
+leaves_event : (m : Machine) (event : Event) (seen : Seen) (reply : Reply) (after : Machine) → Step m event seen reply after → Leaves m seen reply after
+leaves_event m (OfSession s st) seen reply after step = leaves_step m s st seen reply after step
+leaves_event m (Upkeep control) seen reply after step = leaves_keeps m seen reply after step
 
 -- a line that is refused tells of no commit and of no fault
-so_refused : (line : List ℕ) (head : Head) (reply : Reply) (risen : ℕ → Bool) (after : Machine) → IsRefused line head reply → IsSo risen reply after
-so_refused line Unknown (Committed k) risen after refusal = absurd refusal
-so_refused line Unknown (Fault f) risen after refusal = absurd refusal
-so_refused line Unknown (InDoubt k) risen after refusal = absurd refusal
-so_refused line Control (Committed k) risen after refusal = absurd refusal
-so_refused line Control (Fault f) risen after refusal = absurd refusal
-so_refused line Control (InDoubt k) risen after refusal = absurd refusal
-so_refused line (Session s) (Committed k) risen after refusal = absurd refusal
-so_refused line (Session s) (Fault f) risen after refusal = absurd refusal
-so_refused line (Session s) (InDoubt k) risen after refusal = absurd refusal
-so_refused line head reply risen after refusal = tt
+so_refused : (line : List ℕ) (head : Head) (reply : Reply) (seen : Seen) (after : Machine) → IsRefused line head reply → IsSo seen reply after
+so_refused line Unknown (Committed k) seen after refusal = absurd refusal
+so_refused line Unknown (Fault f) seen after refusal = absurd refusal
+so_refused line Unknown (InDoubt k) seen after refusal = absurd refusal
+so_refused line Control (Committed k) seen after refusal = absurd refusal
+so_refused line Control (Fault f) seen after refusal = absurd refusal
+so_refused line Control (InDoubt k) seen after refusal = absurd refusal
+so_refused line (HeadOf s) (Committed k) seen after refusal = absurd refusal
+so_refused line (HeadOf s) (Fault f) seen after refusal = absurd refusal
+so_refused line (HeadOf s) (InDoubt k) seen after refusal = absurd refusal
+so_refused line head reply seen after refusal = tt
 
 pub never_doubt : (line : List ℕ) (head : Head) (k : ℕ) → IsRefused line head (InDoubt k) → ⊥
 never_doubt line Unknown k refusal = refusal
 never_doubt line Control k refusal = refusal
-never_doubt line (Session s) k refusal = refusal
+never_doubt line (HeadOf s) k refusal = refusal
 
-pub answer_leaves : (line : List ℕ) (m : Machine) (answer : Answer) → IsAnswer line m answer → GoesOn m answer.after × IsSo answer.risen answer.reply answer.after
-answer_leaves line m answer (inl refusal) = (goes_same m answer.after refusal.1, so_refused line answer.head answer.reply answer.risen answer.after refusal.0)
-answer_leaves line m answer (inr step) = leaves_event m step.0 answer.risen answer.reply answer.after step.3
+pub answer_leaves : (line : List ℕ) (m : Machine) (answer : Answer) → IsAnswer line m answer → GoesOn m answer.after × IsSo answer.seen answer.reply answer.after
+answer_leaves line m answer (inl refusal) = (goes_same m answer.after refusal.1, so_refused line answer.head answer.reply answer.seen answer.after refusal.0)
+answer_leaves line m answer (inr step) = leaves_event m step.0 answer.seen answer.reply answer.after step.3
 
 -- a fault that a reply tells of raised the count
-pub fault_rises : (risen : ℕ → Bool) (reply : Reply) (after : Machine) (file : ℕ) → IsSo risen reply after → tells_fault file reply ≡ true → risen file ≡ true
-fault_rises risen (Fault f) after file so told = subst (λ (x : ℕ). risen x ≡ true) (sym (eqb-true file f told)) so
-fault_rises risen (InDoubt k) after file so told = subst (λ (x : ℕ). risen x ≡ true) (sym (eqb-true file 0 told)) so
-fault_rises risen reply after file so told = cc
+pub fault_rises : (seen : Seen) (reply : Reply) (after : Machine) (file : ℕ) → IsSo seen reply after → tells_fault file reply ≡ true → seen.rose file ≡ true
+fault_rises seen (Fault f) after file so told = subst (λ (x : ℕ). seen.rose x ≡ true) (sym (eqb-true file f told)) so
+fault_rises seen (InDoubt k) after file so told = subst (λ (x : ℕ). seen.rose x ≡ true) (sym (eqb-true file 0 told)) so
+fault_rises seen reply after file so told = cc
 
-pub committed_within : (risen : ℕ → Bool) (reply : Reply) (after : Machine) (k : ℕ) → IsSo risen reply after → reply ≡ Committed k → k ≤ length after.history
-committed_within risen reply after k so is = let P : Reply → Type 0 = λ r. IsSo risen r after in subst P is so
+pub committed_within : (seen : Seen) (reply : Reply) (after : Machine) (k : ℕ) → IsSo seen reply after → reply ≡ Committed k → k ≤ length after.history
+committed_within seen reply after k so is = let P : Reply → Type 0 = λ r. IsSo seen r after in subst P is so
 
 -- so along a run: each answer that tells of a fault tells of one by which the count rose
 pub run_tells : (file : ℕ) (m : Machine) (lines : List (List ℕ)) (answers : List Answer) → IsRun m lines answers → TellRisen file answers
 run_tells file m [] [] run = tt
 run_tells file m (line ∷ lines) (answer ∷ answers) run =
-    ((λ told. fault_rises answer.risen answer.reply answer.after file (answer_leaves line m answer run.0).1 told), run_tells file answer.after lines answers run.1)
+    ((λ told. fault_rises answer.seen answer.reply answer.after file (answer_leaves line m answer run.0).1 told), run_tells file answer.after lines answers run.1)
 run_tells file m [] (answer ∷ answers) run = absurd run
 run_tells file m (line ∷ lines) [] run = absurd run

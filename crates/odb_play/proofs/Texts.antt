@@ -1,5 +1,5 @@
 -- How session lines and statement texts begin with their numbers.
-use Rattle.std.proofs.Common.{◌≡◌, ℕ, ◌<◌, List, ◌++◌, codes, ◌∙◌, inl, lit<, append_assoc}
+use Rattle.std.proofs.Common.{◌≡◌, ℕ, List, ◌++◌, codes, ◌∙◌, inl, lit<, append_assoc}
 use Rattle.std.specs.Fmt.{decimal}
 use Rattle.odb_model.specs.Script.{IsSessionLine}
 use Rattle.odb_play.specs.Numbers.{StartsWithNumber}

@@ -3,6 +3,7 @@ use Rattle.std.proofs.Common.{◌≡◌, ◌≢◌, ℕ, ◌-◌, ◌<◌, false
 use Rattle.std.specs.Prelude.{Ok, Err}
 use Rattle.odb_model.specs.declared.event.Event.{Event}
 use Rattle.odb_model.specs.declared.reply.Head.{Head}
+use Rattle.odb_model.specs.declared.reply.Head.TheVariants.{Session as HeadOf, Control, Unknown}
 use Rattle.odb_model.specs.declared.reply.Reply.{Reply}
 use Rattle.odb_system.specs.Held.{Held, StandsFor}
 use Rattle.odb_device.specs.World.{File, World, present, file_of}
@@ -19,13 +20,14 @@ use Rattle.odb_kept.proofs.Keeping.{either_before}
 use Rattle.odb_reply.specs.Telling.{TellsAlone}
 use Rattle.odb_system.specs.Durable.{HoldsThroughout, IsDurable}
 use Rattle.odb_system.proofs.Keeping.{holds_either}
-use Rattle.odb_system.specs.Kept.{IsKept, Rests, IsDoubtCaused, Stepped}
+use Rattle.odb_system.specs.Kept.{IsKept, Rests, IsDoubtCaused, StepWrites, Stepped}
 use Rattle.odb_play.specs.declared.player.Stop.TheVariants.{WriteFault as OutputFails, NoMemory as MemoryFails}
 use Rattle.odb_play.specs.Part.{IsCaused}
 use Rattle.odb_play.specs.Played.{Replies, LineEnds}
 use Rattle.odb_play.proofs.Steps.{never_doubt}
 use Rattle.odb_play.proofs.Parts.{line_untold, line_part, line_whole}
-use Rattle.odb_model.specs.declared.reply.Reply.TheVariants.{InDoubt}
+use Rattle.odb_model.specs.declared.reply.Reply.TheVariants.{Committed, Fault, InDoubt}
+use Rattle.odb_model.specs.Book.{Seen}
 use Rattle.odb_model.specs.Machine.{Machine}
 use Rattle.odb_model.specs.Script.{IsRequest, IsRefused, head_of}
 use Rattle.odb_model.specs.Play.{Answer, IsAnswer, text_of_answer}
@@ -47,9 +49,15 @@ fronts_tell front line m answer (inr longer) is = longer_told front line m answe
 pub replies_event : (line : List ℕ) (m : Machine) (event : Event) (reply : Reply) (held : Held) (old new : World) → IsRequest line event → Stepped m event reply held old new
     → Replies line m (head_of event) reply held old new
 replies_event line m event reply held old new request stepped = record {
-  answer = record { head = head_of event; reply = reply; risen = stepped.follows.risen; after = stepped.follows.after };
+  answer = record { head = head_of event; reply = reply; seen = stepped.follows.seen; after = stepped.follows.after };
   answer_is = inr (event, request, refl, stepped.follows.step);
-  cause = record { rose = stepped.follows.cause; doubt = stepped.doubt };
+  cause = record {
+    rose = stepped.follows.causes.rose_has;
+    before_gate = stepped.follows.causes.before_has;
+    from_gate = stepped.from_gate;
+    doubt = stepped.doubt;
+    writes = stepped.writes;
+  };
   head_is = refl;
   reply_is = refl;
   stands = stepped.follows.stands;
@@ -58,9 +66,26 @@ replies_event line m event reply held old new request stepped = record {
   rests = stepped.rests;
 }
 
--- no file's count rose, and nothing is in doubt
-none_caused : (line : List ℕ) (m : Machine) (head : Head) (reply : Reply) (w : World) → IsRefused line head reply → IsCaused m (record { head = head; reply = reply; risen = λ _. false; after = m }) w w
-none_caused line m head reply w refusal = record { rose = λ file e. cc; doubt = no_doubt reply refusal }
+-- nothing was seen
+abbrev nothing_seen : Seen
+nothing_seen = record { rose = λ file. false; rose_before_gate = false; rose_at_gate = false }
+
+-- a refused line is never answered by a commit or a fault
+unwritten : (line : List ℕ) (m : Machine) (head : Head) (reply : Reply) (w : World) → IsRefused line head reply → StepWrites m reply w w
+unwritten line m Unknown (Committed k) w refusal = absurd refusal
+unwritten line m Control (Committed k) w refusal = absurd refusal
+unwritten line m (HeadOf s) (Committed k) w refusal = absurd refusal
+unwritten line m Unknown (Fault f) w refusal = absurd refusal
+unwritten line m Control (Fault f) w refusal = absurd refusal
+unwritten line m (HeadOf s) (Fault f) w refusal = absurd refusal
+unwritten line m Unknown (InDoubt k) w refusal = absurd refusal
+unwritten line m Control (InDoubt k) w refusal = absurd refusal
+unwritten line m (HeadOf s) (InDoubt k) w refusal = absurd refusal
+unwritten line m head reply w refusal = refl
+
+-- no file's count rose, nothing is in doubt, and nothing was written
+none_caused : (line : List ℕ) (m : Machine) (head : Head) (reply : Reply) (w : World) → IsRefused line head reply → IsCaused m (record { head = head; reply = reply; seen = nothing_seen; after = m }) w w
+none_caused line m head reply w refusal = record { rose = λ file e. cc; before_gate = λ e. cc; from_gate = λ e. cc; doubt = no_doubt reply refusal; writes = unwritten line m head reply w refusal }
   where
     no_doubt : (r : Reply) → IsRefused line head r → IsDoubtCaused m r m w w
     no_doubt (InDoubt k) refused = absurd (never_doubt line head k refused)
@@ -69,7 +94,7 @@ none_caused line m head reply w refusal = record { rose = λ file e. cc; doubt =
 -- the line was refused
 pub refused : (line : List ℕ) (m : Machine) (head : Head) (reply : Reply) (held : Held) (w : World) → IsRefused line head reply → StandsFor held m → Rests m (present w) → Replies line m head reply held w w
 refused line m head reply held w refusal stands rests = record {
-  answer = record { head = head; reply = reply; risen = λ _. false; after = m };
+  answer = record { head = head; reply = reply; seen = nothing_seen; after = m };
   answer_is = inl (refusal, refl);
   cause = none_caused line m head reply w refusal;
   head_is = refl;

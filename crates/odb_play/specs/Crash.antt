@@ -15,9 +15,10 @@ use Rattle.odb_system.specs.Kept.{IsKept}
 use Rattle.odb_play.specs.Part.{Along}
 
 -- the machine that the run begins with goes on from the history of the one at entry, or from it
--- with the entry in doubt
+-- with the entry in doubt, in a database of the same format and sides
 pub record IsFound (entry first : Machine) : Type 0 where
-  pub side : first.side ≡ entry.side
+  pub format : first.format ≡ entry.format
+  pub sides : first.sides ≡ entry.sides
   pub history : (first.history ≡ entry.history) ⊎ (first.history ≡ history_or_more entry)
 
 -- a machine keeps every image of every file as the call begins, one entry in doubt allowed, and the

@@ -1,17 +1,21 @@
 -- What `play` makes of the files that it finds.
 use Rattle.std.specs.Prelude.{◌≡◌, ◌≢◌, ◌⊎◌, ℕ, List, IfSome}
-use Rattle.odb_device.specs.World.{World, file_of}
-use Rattle.odb_device.specs.Moments.{Runs}
+use Rattle.odb_device.specs.World.{World, present, file_of}
+use Rattle.odb_device.specs.Calls.{Keeps}
+use Rattle.odb_device.specs.Steps.{Steps}
 use Rattle.odb_model.specs.declared.entry.Entry.{Entry}
 use Rattle.odb_model.specs.declared.status.Status.{Status}
 use Rattle.odb_model.specs.declared.status.Status.TheVariants.{Done, Usage, ReadFault, WriteFault, FileFault, NoDatabase, Exists, Damaged, NotHeld, InputTooLong, NoMemory}
-use Rattle.odb_model.specs.Machine.{Side, first_machine}
+use Rattle.odb_model.specs.Sides.{Sides}
+use Rattle.odb_model.specs.Machine.{first_machine}
 use Rattle.odb_transdb.specs.declared.header.Header.{Header}
 use Rattle.odb_transdb.specs.Header.{first_held}
 use Rattle.odb_transdb.specs.Opened.{Opened, no_database, damaged, holding, opened}
-use Rattle.odb_transdb.specs.Answers.{KeepsOpened}
-use Rattle.odb_system.specs.Held.{side_of}
+use Rattle.odb_transdb.specs.Worlds.{OpensAsBefore, OnlyClosesGates, HasClosedGates}
+use Rattle.odb_system.specs.Held.{sides_of}
+use Rattle.odb_system.specs.Kept.{Rests}
 use Rattle.odb_play.specs.Crash.{SurvivesCrashes, LosesNoCommit}
+use Rattle.odb_play.specs.Part.{Along, Causes}
 use Rattle.odb_play.specs.Played.{IsPlayed}
 
 -- the bytes hold entries from the first on
@@ -40,35 +44,54 @@ IsOpeningOf NoMemory what = Unit {0}
 IsOpeningOf Usage what = ⊥
 IsOpeningOf Exists what = ⊥
 
--- the bytes hold these entries, from number 1 on, and records go on to this side
-abbrev pub HoldsFrom : Side → List Entry → Opened → Type 0
-HoldsFrom side entries what =
-    (h : Header) × (what ≡ holding h entries) × (side ≡ side_of h) × (first_held h ≡ 1)
+-- the bytes hold these entries, from number 1 on, in a database of this format with these sides
+abbrev pub HoldsFrom : ℕ → Sides → List Entry → Opened → Type 0
+HoldsFrom format sides entries what =
+    (h : Header) × (what ≡ holding h entries) × (format ≡ h.format) × (sides ≡ sides_of h)
+    × (first_held h ≡ 1)
 
 -- The script was played, from the machine of the entries that TRANSDB holds. That survives a crash
--- at every moment, which loses no commit
+-- at every moment, which loses no commit. The steps came behind a moment, the last one of `begun`,
+-- until which nothing was said, and TRANSDB changed only as a refused opening may change it, and at
+-- which the files rested; so each count that an answer tells of rose after it. From then on the
+-- files change only in the steps, and whatever they were at the call, at every moment a crash
+-- leaves what is kept along the answers
 pub record IsPlayedFrom (status : Status) (old new : World) : Type 0 where
-  pub side : Side
+  pub format : ℕ
+  pub sides : Sides
   pub entries : List Entry
-  pub opens : IfSome (file_of 0 old) (λ f. HoldsFrom side entries (opened f.bytes))
-  pub played : IsPlayed (first_machine side entries) status old new
-  pub crash : SurvivesCrashes (first_machine side entries) played.answers old new
-  pub commits : LosesNoCommit (first_machine side entries) played.answers old new
+  pub opens : IfSome (file_of 0 old) (λ f. HoldsFrom format sides entries (opened f.bytes))
+  pub played : IsPlayed (first_machine format sides entries) status old new
+  pub begun : World
+  pub opening : OpensAsBefore old begun
+  pub gates : OnlyClosesGates old begun
+  pub resting : Rests (first_machine format sides entries) (present begun)
+  pub behind : Causes (first_machine format sides entries) played.answers begun new
+  pub kept : Steps (Along (first_machine format sides entries) (first_machine format sides entries)
+      played.answers (present begun).said) begun new
+  pub crash : SurvivesCrashes (first_machine format sides entries) played.answers old new
+  pub commits : LosesNoCommit (first_machine format sides entries) played.answers old new
 
--- the opening was refused: only TRANSDB may have changed, and it opens as before; nothing was taken
--- or said
-abbrev pub IsRefused : World → World → Type 0
-IsRefused old new = Runs 0 (KeepsOpened (file_of 0 old)) old new
+-- The opening was refused with this status, and nothing was taken or said. Only TRANSDB may have
+-- changed. At every moment, whatever the status is, each image of it opens as one from before, and
+-- each is one from before but for gates that were open where the lists of the sides that hold
+-- entries end. At the end such a gate reads as before or is closed, unless a call of the store
+-- failed, which is FileFault. Where it is no database, it is just as it was, and on the disk
+pub record IsRefused (status : Status) (old new : World) : Type 0 where
+  pub run : OpensAsBefore old new
+  pub bytes : OnlyClosesGates old new
+  pub closed : ((file : ℕ) → status ≢ FileFault file) → HasClosedGates old new
+  pub nothing : status ≡ NoDatabase → Keeps 0 old new
 
 abbrev pub PlayOutcome : Status → World → World → Type 0
 PlayOutcome Done old new = IsPlayedFrom Done old new
 PlayOutcome ReadFault old new = IsPlayedFrom ReadFault old new
 PlayOutcome WriteFault old new = IsPlayedFrom WriteFault old new
 PlayOutcome InputTooLong old new = IsPlayedFrom InputTooLong old new
-PlayOutcome NoMemory old new = IsRefused old new ⊎ IsPlayedFrom NoMemory old new
-PlayOutcome NoDatabase old new = IsRefused old new
-PlayOutcome (Damaged file at) old new = IsRefused old new
-PlayOutcome (NotHeld bank mark first) old new = IsRefused old new
-PlayOutcome (FileFault file) old new = IsRefused old new
+PlayOutcome NoMemory old new = IsRefused NoMemory old new ⊎ IsPlayedFrom NoMemory old new
+PlayOutcome NoDatabase old new = IsRefused NoDatabase old new
+PlayOutcome (Damaged file at) old new = IsRefused (Damaged file at) old new
+PlayOutcome (NotHeld bank mark first) old new = IsRefused (NotHeld bank mark first) old new
+PlayOutcome (FileFault file) old new = IsRefused (FileFault file) old new
 PlayOutcome Usage old new = ⊥
 PlayOutcome Exists old new = ⊥

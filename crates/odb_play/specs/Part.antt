@@ -3,13 +3,13 @@ use Rattle.std.specs.Prelude.{◌≡◌, ℕ, true, List, [], ◌∷◌, ◌++�
 use Rattle.odb_device.specs.World.{Moment, World, present}
 use Rattle.odb_device.specs.Calls.{FileCountRose}
 use Rattle.odb_device.specs.Console.{Says}
-use Rattle.odb_device.specs.Steps.{Steps}
+use Rattle.odb_device.specs.Steps.{Steps, IsQuiet}
 use Rattle.odb_kept.specs.Running.{KeptAlong, IsRunning}
 use Rattle.odb_model.specs.Machine.{Machine}
 use Rattle.odb_model.specs.Play.{Answer, machine_after, text_of_answer, said_by}
 use Rattle.odb_reply.specs.Telling.{TellsAlone}
-use Rattle.odb_system.specs.Kept.{IsKept, Rests, IsDoubtCaused}
-use Rattle.odb_play.specs.Outside.{TouchesOnly, Passed}
+use Rattle.odb_system.specs.Kept.{IsKept, Rests, RoseFromGate, IsDoubtCaused, StepWrites}
+use Rattle.odb_play.specs.Outside.{TouchesOnly, Passed, LeavesFiles}
 
 abbrev pub after_of : Answer → Machine
 after_of answer = answer.after
@@ -20,18 +20,54 @@ after_of answer = answer.after
 abbrev pub Along : Machine → Machine → List Answer → Option (List ℕ) → Moment → Type 0
 Along = KeptAlong IsKept after_of text_of_answer
 
--- a file's count rose in the step where the answer has it so, and INDOUBT has its cause
+-- a file's count rose in the step where the answer has it so, that of TRANSDB before a record's gate
+-- or from it on where the answer has that; INDOUBT has its cause; and the step wrote only what its
+-- reply has it write
 pub record IsCaused (m : Machine) (answer : Answer) (before after : World) : Type 0 where
-  pub rose : (file : ℕ) → answer.risen file ≡ true → FileCountRose file before after
+  pub rose : (file : ℕ) → answer.seen.rose file ≡ true → FileCountRose file before after
+  pub before_gate : answer.seen.rose_before_gate ≡ true → FileCountRose 0 before after
+  pub from_gate : answer.seen.rose_at_gate ≡ true → RoseFromGate m answer.after before after
   pub doubt : IsDoubtCaused m answer.reply answer.after before after
+  pub writes : StepWrites m answer.reply before after
 
--- From machine m on, the steps of the answers were taken one behind another, each between two
--- worlds of its own, in which it has its causes
+-- From machine m on, the step of the answer was taken between two moments of a stretch, the last
+-- ones of `before` and `after`. At both just these bytes are said since its beginning, until the
+-- first each file is as it was, and the counts that the answer tells of rose between them
+pub record IsStep (m : Machine) (answer : Answer) (bytes : List ℕ) (old before after : World) :
+    Type 0 where
+  pub reaches : LeavesFiles old before
+  pub says : Says bytes old before
+  pub passes : Passed before after
+  pub quiet : IsQuiet before after
+  pub caused : IsCaused m answer before after
+
+-- From machine m on, the steps of the answers were taken one behind another, each where just these
+-- bytes are said behind the one before it: first the given ones, and then the text of the answer
+-- before. Between them each file is as it was. At the end, when these are the bytes of the last
+-- one, End holds
+abbrev pub StepsTaken : (List ℕ → World → World → Type 0)
+    → Machine → List ℕ → List Answer → World → World → Type 0
+StepsTaken End m bytes [] old new = End bytes old new
+StepsTaken End m bytes (answer ∷ answers) old new =
+    (before : World) × (after : World) × IsStep m answer bytes old before after
+    × StepsTaken End answer.after (text_of_answer answer) answers after new
+
+-- behind the last one each file is as it was, and anything may have been said
+abbrev pub EndsAnyhow : List ℕ → World → World → Type 0
+EndsAnyhow bytes old new = LeavesFiles old new
+
+-- or just its text
+abbrev pub EndsSaid : List ℕ → World → World → Type 0
+EndsSaid bytes old new = LeavesFiles old new × Says bytes old new
+
+-- the steps of the answers, each between moments of its own, at which just the texts of the answers
+-- before it are said; the files change only in them
 abbrev pub Causes : Machine → List Answer → World → World → Type 0
-Causes m [] old new = Passed old new
-Causes m (answer ∷ answers) old new =
-    (before : World) × (after : World) × Passed old before × Passed before after
-    × IsCaused m answer before after × Causes answer.after answers after new
+Causes m answers old new = StepsTaken EndsAnyhow m [] answers old new
+
+-- and in the end the text of each is said
+abbrev pub CausesOfSaid : Machine → List Answer → World → World → Type 0
+CausesOfSaid m answers old new = StepsTaken EndsSaid m [] answers old new
 
 -- a front of each answer's text tells of no other commit than the reply's own
 abbrev pub TellAlone : List Answer → Type 0
@@ -60,7 +96,7 @@ pub record IsPart (m : Machine) (answers : List Answer) (old new : World) : Type
 -- a part whose answers are all said, and in the end the files rest
 pub record IsWhole (m : Machine) (answers : List Answer) (old new : World) : Type 0 where
   pub only : TouchesOnly 0 old new
-  pub causes : Causes m answers old new
+  pub causes : CausesOfSaid m answers old new
   pub alone : TellAlone answers
   pub running : IsRunning IsKept after_of text_of_answer m m answers (machine_after m answers)
       old new

@@ -139,10 +139,11 @@ pub record IsPlayed (m : Machine) (status : Status) (old new : World) : Type 0 w
   pub says : Says output old new
   pub ends : PlayEnds (RoseBy old new) m status old.talk.has_ended new.talk.has_ended
       input answers output
-  pub causes : Causes m answers old new
 
--- and from files that rest on: at every moment they are kept along the answers
+-- and from files that rest on: these change only in the steps of the answers, and at every moment
+-- they are kept along the answers
 pub record IsPlayedOn (m : Machine) (status : Status) (old new : World) : Type 0 where
   pub played : IsPlayed m status old new
+  pub causes : Causes m played.answers old new
   pub heard : IsHeard played.answers old new
   pub kept : Steps (Along m m played.answers (present old).said) old new

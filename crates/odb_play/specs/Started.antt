@@ -8,12 +8,13 @@ use Rattle.odb_transdb.specs.Header.{first_held}
 use Rattle.odb_transdb.specs.Opened.{holding, opened}
 use Rattle.odb_transdb.specs.declared.error.TransdbError.{TransdbError}
 use Rattle.odb_transdb.specs.declared.error.TransdbError.TheVariants.{NoDatabase as NoPair, Damaged as BadBytes, Full, FaultBefore, InDoubt, Fault, NoMemory as NoRoom}
-use Rattle.odb_system.specs.Held.{Held, StandsFor, side_of}
+use Rattle.odb_system.specs.Held.{Held, StandsFor, sides_of}
 use Rattle.odb_system.specs.Durable.{IsDurable}
 
 -- a system of the entries that TRANSDB holds, of which the first has the number 1
 pub record IsStarted (held : Held) (old new : World) : Type 0 where
-  pub stands : StandsFor held (first_machine (side_of held.transdb.header) held.history)
+  pub stands : StandsFor held
+      (first_machine held.transdb.header.format (sides_of held.transdb.header) held.history)
   pub durable : IsDurable held (file_of 0 new)
   pub opens : IfSome (file_of 0 old)
       (λ f. opened f.bytes ≡ holding held.transdb.header held.history)

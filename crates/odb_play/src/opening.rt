@@ -1,12 +1,11 @@
 //! Opening the files of a database.
-ghost use Rattle.std.specs.Prelude.{◌≡◌, ℕ, Err, IfOk, IfErr, IfSome};
+ghost use Rattle.std.specs.Prelude.{◌≡◌, ℕ, Err, IfOk, IfErr, IfSome, OnOk};
 ghost use Rattle.odb_device.specs.World.{file_of};
 ghost use Rattle.odb_device.specs.Calls.{FileCountRose};
-ghost use Rattle.odb_device.specs.Moments.{Runs};
 ghost use Rattle.odb_transdb.specs.Opened.{opened};
-ghost use Rattle.odb_transdb.specs.Answers.{KeepsOpened};
+ghost use Rattle.odb_transdb.specs.Worlds.{OpensAsBefore, OnlyClosesGates, HasClosedGates};
 ghost use Rattle.odb_play.specs.Started.{IsStarted, RefusesOpening, status_of};
-ghost use Rattle.odb_play.specs.Opening.{IsOpeningOf};
+ghost use Rattle.odb_play.specs.Opening.{IsOpeningOf, IsRefused};
 
 use odb_device::Host;
 use odb_model::Status;
@@ -19,10 +18,15 @@ const SYSDB: u32 = 2;
 
 /// The system of the entries that TRANSDB holds; or the status that refuses it.
 ///
-/// Either way each image of TRANSDB opens as one from before, and nothing was taken or said.
+/// Either way, and at each moment, each image of TRANSDB opens as one from before and is that one,
+/// but for open gates behind the lists of the sides that hold entries; and nothing was taken or
+/// said.
 pub(crate) fn open_system<H: Host>(alloc: Global, host: &mut H) -> Result<System, Status>
-    ensures run { Runs 0 (KeepsOpened (file_of 0 (H.world host.old)))
-        (H.world host.old) (H.world host.new) }
+    ensures run { OpensAsBefore (H.world host.old) (H.world host.new) }
+    ensures bytes { OnlyClosesGates (H.world host.old) (H.world host.new) }
+    ensures closed { OnOk result (HasClosedGates (H.world host.old) (H.world host.new)) }
+    ensures refused { IfErr result
+        (λ status. IsRefused status (H.world host.old) (H.world host.new)) }
     ensures started { IfOk result
         (λ system. IsStarted system (H.world host.old) (H.world host.new)) }
     ensures refusal { IfErr result RefusesOpening }
@@ -31,11 +35,11 @@ pub(crate) fn open_system<H: Host>(alloc: Global, host: &mut H) -> Result<System
     ensures cause { (file : ℕ) → result ≡ Err (Status.FileFault file)
         → (file ≡ 0) × FileCountRose 0 (H.world host.old) (H.world host.new) }
 {
-    let (transdb, entries) = match Transdb::open_with_entries(alloc, host) {
+    let opened = match Transdb::open_with_entries(alloc, host) {
         Ok(opened) => opened,
         Err(error) => return Err(status_of(error)),
     };
-    let first = transdb.first();
+    let first = opened.transdb.first();
     if first != 1 {
         return Err(Status::NotHeld {
             bank: SYSDB,
@@ -43,7 +47,7 @@ pub(crate) fn open_system<H: Host>(alloc: Global, host: &mut H) -> Result<System
             first,
         });
     }
-    match System::start(alloc, transdb, entries) {
+    match System::start(alloc, opened.transdb, opened.entries) {
         Ok(system) => Ok(system),
         Err(_) => Err(Status::NoMemory),
     }

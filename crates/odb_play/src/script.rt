@@ -5,16 +5,15 @@ ghost use Rattle.odb_model.specs.Machine.{Machine};
 ghost use Rattle.odb_model.specs.Play.{Answer};
 ghost use Rattle.odb_device.specs.World.{file_of, present};
 ghost use Rattle.odb_device.specs.Calls.{FileCountRose};
-ghost use Rattle.odb_device.specs.Moments.{Runs};
 ghost use Rattle.odb_transdb.specs.Opened.{opened};
-ghost use Rattle.odb_transdb.specs.Answers.{KeepsOpened};
+ghost use Rattle.odb_transdb.specs.Worlds.{OpensAsBefore, OnlyClosesGates};
 ghost use Rattle.odb_system.specs.Held.{StandsFor};
 ghost use Rattle.odb_system.specs.Durable.{IsDurable};
 ghost use Rattle.odb_system.specs.Kept.{Rests};
 ghost use Rattle.odb_play.specs.Outside.{TouchesOnly};
 ghost use Rattle.odb_play.specs.Played.{IsAt, IsPlayedOn, EndsWith};
 ghost use Rattle.odb_play.specs.Started.{IsStarted, RefusesOpening};
-ghost use Rattle.odb_play.specs.Opening.{PlayOutcome, IsOpeningOf};
+ghost use Rattle.odb_play.specs.Opening.{PlayOutcome, IsOpeningOf, IsRefused};
 
 use crate::opening::open_system;
 use crate::player::{FRONT, Player};
@@ -29,7 +28,8 @@ const PIECE: usize = 65_536;
 const MOST_INPUT: u64 = 4_294_967_296;
 
 /// Opens TRANSDB, file 0, and plays the script that the host's input holds, from the entries found
-/// there on. It says the reply to each line before the next line is answered.
+/// there on. It says the replies in the order of the lines, each before a later line changes what a
+/// crash leaves.
 ///
 /// It refuses what [`Transdb::open_with_entries`] refuses, and with `NotHeld` entries of which the
 /// first isn't number 1: what came before them is nowhere, since no databank has a file yet. After
@@ -39,7 +39,9 @@ const MOST_INPUT: u64 = 4_294_967_296;
 /// At each moment of it, with i replies wholly said, a crash leaves files that are kept by the
 /// machine after i answers or after i + 1: a TRANSDB that opens to its history, or to it and the
 /// entry in doubt. This is promised of files that some machine keeps so at the call, and that are
-/// told.
+/// told; once the opening is over, of any. From then on TRANSDB changes only in the steps of lines
+/// that are answered COMMITTED, FAULT or INDOUBT: never while a reply is said, between two steps,
+/// or behind the last one.
 pub fn play<H: Host>(alloc: Global, host: &mut H) -> Status
     ensures played { PlayOutcome result (H.world host.old) (H.world host.new) }
     ensures opened { IfSome (file_of 0 (H.world host.old))
@@ -60,8 +62,10 @@ pub fn play<H: Host>(alloc: Global, host: &mut H) -> Status
 /// A player that has answered nothing, with the entries that TRANSDB holds as its history, and room
 /// for a piece of the input.
 fn open_player<H: Host>(alloc: Global, host: &mut H) -> Result<(Player, Vec<u8>), Status>
-    ensures run { Runs 0 (KeepsOpened (file_of 0 (H.world host.old)))
-        (H.world host.old) (H.world host.new) }
+    ensures run { OpensAsBefore (H.world host.old) (H.world host.new) }
+    ensures bytes { OnlyClosesGates (H.world host.old) (H.world host.new) }
+    ensures refused { IfErr result
+        (λ status. IsRefused status (H.world host.old) (H.world host.new)) }
     ensures started { IfOk result
         (λ r. IsStarted r.0.system (H.world host.old) (H.world host.new)) }
     ensures front { IfOk result (λ r. r.0.front.items ≡ []) }

@@ -12,7 +12,7 @@ use Rattle.odb_reclog.specs.declared.record.LogRecord.{LogRecord}
 use Rattle.odb_reclog.specs.declared.window.Window.{Window}
 use Rattle.odb_reclog.proofs.Collecting.{Collected, collected_more}
 use Rattle.odb_reclog.proofs.Records.{end_more}
-use Rattle.odb_reclog.proofs.Walking.{same_then}
+use Rattle.odb_device.proofs.Time.{reads_then}
 
 -- these payloads were collected up to a place
 pub record Gathered (file start end first : ℕ) (old new : World) (window : Window) (payloads : List (List ℕ)) (place number : ℕ) : Type 0 where
@@ -50,7 +50,7 @@ gather_more file start end first w w1 w2 window after payloads now place number 
     let ahead : (r.next ≡ place + 13 + length r.payload) × (r.next ≤ end) =
     subst (λ (o : Option LogRecord). IfSome o (λ r. (r.next ≡ place + 13 + length r.payload) × (r.next ≤ end))) is forward in
     subst (λ (l : List (List ℕ)). Gathered file start end first w w2 after l r.next (number + 1)) (sym now_is) (record {
-      run = same_then file w w1 w2 so_far.run run;
+      run = reads_then file w w1 w2 so_far.run run;
       shows = subst (Shows after) same shows;
       list = collected_then (file_of file w) start end first payloads place number found r is ahead.0 ahead.1
           (subst (λ (o : Option File). IfSome o (λ f. option_map (λ r. r.next) found ≡ next_at end number place f.bytes)) same next)

@@ -12,6 +12,7 @@ mod Found
 mod Closing
 mod Walking
 mod Gates
+mod OpenEnds
 mod Opens
 mod Recorded
 mod Collecting

@@ -3,19 +3,12 @@ use Rattle.std.proofs.Common.{◌≡◌, ℕ, ◌+◌, ◌≤◌, List, length, 
 use Rattle.std.specs.Prelude.{IfSome}
 use Rattle.odb_device.specs.World.{File, World, file_of}
 use Rattle.odb_device.specs.Moments.{Runs}
-use Rattle.odb_device.proofs.Time.{begins, joins, weakens, run_end}
+use Rattle.odb_device.proofs.Time.{begins, run_end, reads_then}
 use Rattle.odb_reclog.specs.Records.{log_of, end_of_list}
 use Rattle.odb_reclog.specs.Reading.{next_at}
 use Rattle.odb_reclog.specs.Windows.{Shows}
 use Rattle.odb_reclog.specs.declared.window.Window.{Window}
 use Rattle.odb_reclog.proofs.Leading.{next_some, end_more, count_more}
-
--- calls that leave the file, one part behind another
-pub same_then : (file : ℕ) (w w1 w2 : World) → Runs file (λ f. f ≡ file_of file w) w w1 → Runs file (λ f. f ≡ file_of file w1) w1 w2
-    → Runs file (λ f. f ≡ file_of file w) w w2
-same_then file w w1 w2 a b =
-    joins file (λ f. f ≡ file_of file w) w w1 w2 a
-    (weakens file (λ f. f ≡ file_of file w1) (λ f. f ≡ file_of file w) w1 w2 (λ o is. is ∙ run_end file (λ f. f ≡ file_of file w) w w1 a) b)
 
 -- the list from the start on ends where that from the place on does
 pub record GoesOn (start end first place number : ℕ) (bytes : List ℕ) : Type 0 where
@@ -71,7 +64,7 @@ walk_goes_on file start end first w w1 w2 window after place number next found s
     subst (λ (o : Option ℕ). IfSome (file_of file w) (λ f. o ≡ next_at end number place f.bytes)) is_some
     (subst (λ o. IfSome o (λ f. found ≡ next_at end number place f.bytes)) same is) in
     record {
-      run = same_then file w w1 w2 so_far.run run;
+      run = reads_then file w w1 w2 so_far.run run;
       shows = subst (Shows after) same shows;
       goes_on = goes_step (file_of file w) start end first place number next long is_next so_far.goes_on;
       from = omega (arith, so_far.from, ahead.0);

@@ -1,8 +1,8 @@
 -- Reading a record: its head, and what a log says of it.
-use Rattle.std.specs.Prelude.{◌≡◌, ℕ, ◌+◌, ◌<◌, ◌≤◌, Bool, ◌&&◌, ◌==◌, nat_le, if◌then◌else◌, List, length, Option, Some, None, Result, IfOk, IfSome}
-use Rattle.odb_device.specs.World.{World}
+use Rattle.std.specs.Prelude.{◌≡◌, ℕ, ◌+◌, ◌<◌, ◌≤◌, Bool, false, ◌&&◌, ◌==◌, nat_le, if◌then◌else◌, List, length, Option, Some, None, Result, IfOk, IfSome}
+use Rattle.odb_device.specs.World.{World, file_of}
 use Rattle.odb_reclog.specs.Records.{OPEN, HEAD, gate_at, size_at, number_at, end_at, is_record, log_of, IsPlaceIn, record_in}
-use Rattle.odb_reclog.specs.Standing.{Log}
+use Rattle.odb_reclog.specs.Standing.{Log, Stands}
 use Rattle.odb_reclog.specs.Told.{IfTold}
 use Rattle.odb_reclog.specs.declared.error.RecError.{RecError}
 use Rattle.odb_reclog.specs.declared.head.Head.{Head}
@@ -30,6 +30,15 @@ next_at end number place bytes =
 abbrev pub IsPlaceOf : Log → ℕ → World → Type 0
 IsPlaceOf log at w = IfTold log.file w
     (λ bytes. IsPlaceIn log.start (log_of log.start log.end log.first bytes) at)
+
+-- a record may be read there: the log isn't in doubt and stands for the file, and the place is that
+-- of a record of its list, or its end
+pub record CanRead (log : Log) (at : ℕ) (w : World) : Type 0 where
+  pub usable : log.in_doubt ≡ false
+  pub stands : Stands log (file_of log.file w)
+  pub low : log.start ≤ at
+  pub high : at ≤ log.place
+  pub place : IsPlaceOf log at w
 
 -- what is answered is the record at the place, as the file reads
 abbrev pub GivesRecord : Log → ℕ → Result (Option LogRecord) RecError → World → Type 0

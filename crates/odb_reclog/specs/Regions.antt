@@ -1,13 +1,14 @@
 -- The region of a log: what is said of it in a world, and from one world to a later one.
-use Rattle.std.specs.Prelude.{◌≡◌, ℕ, ◌+◌, ◌-◌, ◌^◌, ◌≤◌, false, List, [], ◌∷◌, ◌++◌, length, option_map}
+use Rattle.std.specs.Prelude.{◌≡◌, ℕ, ◌+◌, ◌-◌, ◌^◌, ◌≤◌, true, false, List, [], ◌∷◌, ◌++◌, length, option_map}
 use Rattle.odb_device.specs.World.{World, file_of}
 use Rattle.odb_device.specs.Zeros.{AreZero}
 use Rattle.odb_device.specs.Moments.{Runs}
+use Rattle.odb_device.specs.TornSets.{TornInFrom}
 use Rattle.odb_reclog.specs.Told.{IfTold}
 use Rattle.odb_reclog.specs.Moments.{KeepsLists, KeepsOrAdds}
-use Rattle.odb_reclog.specs.Records.{log_of, end_of_list}
-use Rattle.odb_reclog.specs.Standing.{Log, Stands, list_of, list_in, body_of}
-use Rattle.odb_reclog.specs.Ends.{EndsAt, closed_at}
+use Rattle.odb_reclog.specs.Records.{HEAD, payload_at, log_of, end_of_list}
+use Rattle.odb_reclog.specs.Standing.{Log, Stands, SameList, IsClear, HasItsBody, list_of, list_in, body_of}
+use Rattle.odb_reclog.specs.Ends.{IsOpenEnd, EndsAt, closed_at}
 use Rattle.odb_reclog.specs.declared.region.Region.{Region}
 use Rattle.odb_reclog.specs.declared.walk.FoundList.{FoundList}
 use Rattle.odb_reclog.specs.declared.walk.ListEnd.{ListEnd}
@@ -39,6 +40,12 @@ abbrev pub KeepsListFrom : ℕ → Region → World → World → Type 0
 KeepsListFrom at r old new =
     Runs r.file (KeepsLists r.start r.end r.first at (r.end - at) (file_of r.file old)) old new
 
+-- Only the file changes. At each moment each image is one from before, but for the gate where the
+-- list of the file as it reads ends, and that only where it is open
+abbrev pub TearsOpenEnd : Region → World → World → Type 0
+TearsOpenEnd r old new = IfTold r.file old (λ bytes.
+    Runs r.file (TornInFrom (IsOpenEnd r.start r.end r.first bytes) 0 (file_of r.file old)) old new)
+
 -- the list of the file as it reads ends at this place
 abbrev pub ListEndsAt : Region → ℕ → World → Type 0
 ListEndsAt r place w = IfTold r.file w
@@ -58,6 +65,39 @@ AddsBody old new before after =
     let file = file_of old.file before in
     IfTold old.file after
     (λ bytes. log_of new.start new.end new.first bytes ≡ list_of old file ++ body_of old file ∷ [])
+
+-- Only what is behind the gate of the next record changes. At each moment each image keeps its
+-- list, and the new log stands behind it, at the same place.
+pub record WritesBehind (old new : Log) (before after : World) : Type 0 where
+  pub run : KeepsListFrom (old.place + 1) (region_of old) before after
+  pub stands : Stands new (file_of old.file after)
+  pub list : list_of new (file_of old.file after) ≡ list_of old (file_of old.file before)
+  pub same : SameList old new
+
+-- the body of the next record, with this payload, stands behind its closed gate, on the disk
+pub record IsWritten (payload : List ℕ) (old new : Log) (after : World) : Type 0 where
+  pub has_body : new.has_body ≡ true
+  pub body : HasItsBody new (file_of old.file after)
+  pub payload_is : IfTold old.file after (λ bytes. payload_at new.place bytes ≡ payload)
+  pub behind : new.clear_from ≡ old.place + HEAD + length payload
+
+-- that gate may be opened: the log isn't in doubt, stands for the file, and has a body
+pub record CanOpen (log : Log) (w : World) : Type 0 where
+  pub usable : log.in_doubt ≡ false
+  pub written : log.has_body ≡ true
+  pub stands : Stands log (file_of log.file w)
+  pub body : HasItsBody log (file_of log.file w)
+
+-- it is open: the list has the body's payload more, and the log goes on behind it, with a clear
+-- tail
+pub record IsAdded (old new : Log) (before after : World) : Type 0 where
+  pub stands : Stands new (file_of old.file after)
+  pub list : AddsBody old new before after
+  pub next : new.next ≡ old.next + 1
+  pub place : new.place ≡ old.clear_from
+  pub clear : IsClear new
+  pub has_body : new.has_body ≡ false
+  pub usable : new.in_doubt ≡ false
 
 -- all behind the gate of the next record reads as zeros
 abbrev pub ReadsClear : Log → World → Type 0

@@ -87,6 +87,13 @@ body_of log (Some file) = payload_at log.place file.bytes
 abbrev pub HasItsBody : Log → Option File → Type 0
 HasItsBody log file = EachImage (HasBody log (body_of log file)) file
 
+-- the two logs are of the same region
+pub record SameRegion (old new : Log) : Type 0 where
+  pub file : new.file ≡ old.file
+  pub start : new.start ≡ old.start
+  pub end : new.end ≡ old.end
+  pub first : new.first ≡ old.first
+
 -- the two logs differ in what stands behind the gate of the next record alone
 pub record SameList (old new : Log) : Type 0 where
   pub file : new.file ≡ old.file

@@ -5,7 +5,7 @@ ghost use Rattle.odb_device.specs.Images.{IsKept};
 ghost use Rattle.odb_device.specs.Calls.{HasCause};
 ghost use Rattle.odb_reclog.specs.Records.{OPEN, gate_at};
 ghost use Rattle.odb_reclog.specs.Told.{IfTold, OnlyReads};
-ghost use Rattle.odb_reclog.specs.Regions.{IsRegion, IsLong, ListEndsAt, KeepsListFrom};
+ghost use Rattle.odb_reclog.specs.Regions.{IsRegion, IsLong, ListEndsAt, KeepsListFrom, TearsOpenEnd};
 ghost use Rattle.odb_reclog.specs.Ends.{closed_at};
 
 use crate::head;
@@ -36,6 +36,7 @@ pub(crate) fn close_end<S: Store>(store: &mut S, region: Region, place: u64) -> 
     requires ends { ListEndsAt region place (S.world store.old) }
     requires kept { IsKept (file_of region.file (S.world store.old)) }
     ensures run { KeepsListFrom region.start region (S.world store.old) (S.world store.new) }
+    ensures gate { TearsOpenEnd region (S.world store.old) (S.world store.new) }
     ensures closes { OnOk result (file_of region.file (S.world store.new)
         ≡ option_map (closed_at place region.end) (file_of region.file (S.world store.old))) }
     ensures cause { HasCause region.file (S.world store.old) (S.world store.new) result }

@@ -3,8 +3,9 @@ ghost use Rattle.std.specs.Prelude.{◌≡◌, ◌⊎◌, ◌+◌, ◌^◌, ◌�
 ghost use Rattle.odb_device.specs.World.{file_of};
 ghost use Rattle.odb_device.specs.Images.{IsKept};
 ghost use Rattle.odb_device.specs.Calls.{HasCause, FileCountRose, Keeps};
+ghost use Rattle.odb_device.specs.Moments.{WritesWithin};
 ghost use Rattle.odb_reclog.specs.Told.{IfTold};
-ghost use Rattle.odb_reclog.specs.Regions.{region, IsRegion, IsLong, KeepsListFrom, IsEndIn, EndsIn, IsCounted, IsOpened};
+ghost use Rattle.odb_reclog.specs.Regions.{region, IsRegion, IsLong, KeepsListFrom, TearsOpenEnd, IsEndIn, EndsIn, IsCounted, IsOpened};
 ghost use Rattle.odb_reclog.specs.Records.{log_of, end_of_list};
 ghost use Rattle.odb_reclog.specs.Ends.{EndsAt};
 
@@ -30,7 +31,8 @@ impl RecLog {
     ///
     /// One sync; the list is read in pieces of at most 65,536 bytes, and what of a payload lies
     /// beyond a piece is skipped. Where the list ends inside the region one byte more is read, and
-    /// a gate that is open there is closed, by one write and one sync. It takes no memory.
+    /// a gate that is open there is closed, by one write and one sync. Nothing else is written, and
+    /// it takes no memory.
     pub fn open<S: Store>(
         store: &mut S,
         file: u32,
@@ -42,6 +44,8 @@ impl RecLog {
         requires first { first ≤ 2 ^ 63 }
         requires long { IfTold file (S.world store.old) (λ bytes. end ≤ length bytes) }
         ensures run { KeepsListFrom start (region file start end first)
+            (S.world store.old) (S.world store.new) }
+        ensures gate { TearsOpenEnd (region file start end first)
             (S.world store.old) (S.world store.new) }
         ensures opened { IfOk result (λ log. IsOpened (region file start end first) log
             (S.world store.old) (S.world store.new)) }
@@ -83,6 +87,8 @@ impl RecLog {
         requires long { IfTold file (S.world store.old) (λ bytes. end ≤ length bytes) }
         ensures run { KeepsListFrom start (region file start end first)
             (S.world store.old) (S.world store.new) }
+        ensures gate { TearsOpenEnd (region file start end first)
+            (S.world store.old) (S.world store.new) }
         ensures opened { IfOk result (λ found. IsOpened (region file start end first) found.log
             (S.world store.old) (S.world store.new)) }
         ensures payloads { IfTold file (S.world store.old)
@@ -115,6 +121,7 @@ fn settle<S: Store>(store: &mut S, region: Region) -> Result<ListEnd, Failed>
     requires region { IsRegion region }
     requires long { IsLong region (S.world store.old) }
     ensures run { KeepsListFrom region.start region (S.world store.old) (S.world store.new) }
+    ensures still { WritesWithin region.file 0 0 (S.world store.old) (S.world store.new) }
     ensures kept { OnOk result (Keeps region.file (S.world store.old) (S.world store.new)) }
     ensures end { IfTold region.file (S.world store.old)
         (λ bytes. IfOk result (λ found. EndsAt region.start region.end region.first found bytes)) }
@@ -135,6 +142,7 @@ fn settle_payloads<S: Store>(
     requires region { IsRegion region }
     requires long { IsLong region (S.world store.old) }
     ensures run { KeepsListFrom region.start region (S.world store.old) (S.world store.new) }
+    ensures still { WritesWithin region.file 0 0 (S.world store.old) (S.world store.new) }
     ensures kept { OnOk result (Keeps region.file (S.world store.old) (S.world store.new)) }
     ensures end { IfTold region.file (S.world store.old)
         (λ bytes. IfOk result
@@ -161,6 +169,7 @@ fn close_list<S: Store>(store: &mut S, region: Region, found: ListEnd) -> Result
     requires ends { EndsIn region found (S.world store.old) }
     requires kept { IsKept (file_of region.file (S.world store.old)) }
     ensures run { KeepsListFrom region.start region (S.world store.old) (S.world store.new) }
+    ensures gate { TearsOpenEnd region (S.world store.old) (S.world store.new) }
     ensures opened { IfOk result
         (λ log. IsOpened region log (S.world store.old) (S.world store.new)) }
     ensures end { IfOk result (λ log. (log.place ≡ found.place) × (log.next ≡ found.number)) }

@@ -1,10 +1,10 @@
 //! Reading the records of a log.
-ghost use Rattle.std.specs.Prelude.{◌≡◌, ◌↔◌, IsTrue, ◌⊎◌, ◌+◌, ◌^◌, ◌<◌, ◌≤◌, false, length, Some, Err, OnOk, IfOk, IfErr, IfSome};
+ghost use Rattle.std.specs.Prelude.{◌≡◌, ◌↔◌, IsTrue, ◌⊎◌, ◌+◌, ◌^◌, ◌<◌, ◌≤◌, length, Some, Err, OnOk, IfOk, IfErr, IfSome};
 ghost use Rattle.odb_device.specs.World.{file_of};
 ghost use Rattle.odb_device.specs.Images.{part};
 ghost use Rattle.odb_device.specs.Calls.{FileCountRose};
 ghost use Rattle.odb_reclog.specs.Told.{IfTold, OnlyReads};
-ghost use Rattle.odb_reclog.specs.Reading.{IsPlaceOf, GivesRecord, GivesPlace, IsSized};
+ghost use Rattle.odb_reclog.specs.Reading.{CanRead, GivesRecord, GivesPlace, IsSized};
 ghost use Rattle.odb_reclog.specs.Windows.{Shows};
 
 use crate::head::{HEAD, Head, OPEN};
@@ -15,8 +15,6 @@ use odb_values::{Bytes, Frozen};
 use std::alloc::Global;
 
 impl RecLog {
-    ghost use Rattle.odb_reclog.specs.Standing.{Stands};
-
     /// The record at a place, which is that of a record of the list, or its end; None at its end.
     ///
     /// A record that isn't in order any more, which a file that is told never shows, is taken as
@@ -32,10 +30,7 @@ impl RecLog {
         store: &mut S,
         at: u64,
     ) -> Result<Option<LogRecord>, RecError>
-        requires usable { self.now.in_doubt ≡ false }
-        requires stands { Stands self.now (file_of self.now.file (S.world store.old)) }
-        requires within { (self.now.start ≤ at) × (at ≤ self.now.place) }
-        requires place { IsPlaceOf self.now at (S.world store.old) }
+        requires readable { CanRead self.now at (S.world store.old) }
         ensures run { OnlyReads self.now.file (S.world store.old) (S.world store.new) }
         ensures record { GivesRecord self.now at result (S.world store.old) }
         ensures next { GivesPlace self.now result (S.world store.old) }
@@ -65,10 +60,7 @@ impl RecLog {
         window: &mut Window,
         at: u64,
     ) -> Result<Option<LogRecord>, RecError>
-        requires usable { self.now.in_doubt ≡ false }
-        requires stands { Stands self.now (file_of self.now.file (S.world store.old)) }
-        requires within { (self.now.start ≤ at) × (at ≤ self.now.place) }
-        requires place { IsPlaceOf self.now at (S.world store.old) }
+        requires readable { CanRead self.now at (S.world store.old) }
         requires shows { Shows window.old (file_of self.now.file (S.world store.old)) }
         ensures run { OnlyReads self.now.file (S.world store.old) (S.world store.new) }
         ensures record { GivesRecord self.now at result (S.world store.old) }

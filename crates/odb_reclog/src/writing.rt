@@ -3,8 +3,9 @@ ghost use Rattle.std.specs.Prelude.{◌≡◌, ◌⊎◌, ◌+◌, ◌-◌, ◌^
 ghost use Rattle.std.specs.Int.{w32, w64, to_be_bytes};
 ghost use Rattle.odb_device.specs.World.{File, file_of};
 ghost use Rattle.odb_device.specs.Images.{IsKept, part, written, kept};
-ghost use Rattle.odb_device.specs.Calls.{CallsOn, HasCause, FileCountRose, Stays};
+ghost use Rattle.odb_device.specs.Calls.{CallsOn, HasCause, FileCountRose, IsOnePut, Stays};
 ghost use Rattle.odb_device.specs.Zeros.{AreZero, ReadsZero, ZerosGoOn};
+ghost use Rattle.odb_reclog.specs.Records.{OPEN};
 ghost use Rattle.odb_reclog.specs.Told.{IfTold, TearsOnly};
 
 use crate::head::{HEAD, OPEN};
@@ -13,9 +14,8 @@ use crate::{RecError, RecLog};
 use odb_device::{Failed, Store, write_synced, write_zeros};
 
 impl RecLog {
-    ghost use Rattle.odb_reclog.specs.Regions.{region_of, KeepsListFrom, KeepsOrAddsBody, AddsBody, ReadsClear};
-    ghost use Rattle.odb_reclog.specs.Standing.{Stands, IsClear, HasItsBody, SameList, list_of};
-    ghost use Rattle.odb_reclog.specs.Records.{payload_at};
+    ghost use Rattle.odb_reclog.specs.Regions.{WritesBehind, IsWritten, CanOpen, IsAdded, KeepsOrAddsBody, ReadsClear};
+    ghost use Rattle.odb_reclog.specs.Standing.{Stands, IsClear, SameRegion};
     ghost use Rattle.odb_reclog.specs.Answers.{IsBodyAnswer};
 
     /// Makes all behind the gate of the next record zeros on the disk, up to the region's end; the
@@ -29,13 +29,8 @@ impl RecLog {
     pub fn clear_tail<S: Store>(&mut self, store: &mut S) -> Result<(), RecError>
         requires usable { self.old.in_doubt ≡ false }
         requires stands { Stands self.old (file_of self.old.file (S.world store.old)) }
-        ensures run { KeepsListFrom (self.old.place + 1) (region_of self.old)
-            (S.world store.old) (S.world store.new) }
-        ensures stands { Stands self.new (file_of self.old.file (S.world store.new)) }
-        ensures list { list_of self.new (file_of self.old.file (S.world store.new))
-            ≡ list_of self.old (file_of self.old.file (S.world store.old)) }
+        ensures behind { WritesBehind self.old self.new (S.world store.old) (S.world store.new) }
         ensures clear { OnOk result (IsClear self.new × (self.new.has_body ≡ false)) }
-        ensures same { SameList self.old self.new }
         ensures quiet { IsClear self.old → (result ≡ Ok tt) × (store.new ≡ store.old) }
         ensures unwritten { self.old.touched ≡ false → ReadsClear self.old (S.world store.old)
             → Stays self.old.file (S.world store.old) (S.world store.new) }
@@ -74,18 +69,9 @@ impl RecLog {
         ensures answer { IsBodyAnswer (length payload.now) (self.old.end - self.old.place) result }
         ensures full { (need room : ℕ) → result ≡ Err (RecError.Full need room)
             → (self.new ≡ self.old) × (store.new ≡ store.old) }
-        ensures run { KeepsListFrom (self.old.place + 1) (region_of self.old)
-            (S.world store.old) (S.world store.new) }
-        ensures stands { Stands self.new (file_of self.old.file (S.world store.new)) }
-        ensures list { list_of self.new (file_of self.old.file (S.world store.new))
-            ≡ list_of self.old (file_of self.old.file (S.world store.old)) }
-        ensures written { OnOk result ((self.new.has_body ≡ true)
-            × HasItsBody self.new (file_of self.old.file (S.world store.new))) }
-        ensures payload { OnOk result (IfTold self.old.file (S.world store.new)
-            (λ bytes. payload_at self.new.place bytes ≡ payload.now)) }
-        ensures behind { OnOk result
-            (self.new.clear_from ≡ self.old.place + 13 + length payload.now) }
-        ensures same { SameList self.old self.new }
+        ensures behind { WritesBehind self.old self.new (S.world store.old) (S.world store.new) }
+        ensures written { OnOk result
+            (IsWritten payload.now self.old self.new (S.world store.new)) }
         ensures cause { result ≡ Err RecError.Fault
             → FileCountRose self.old.file (S.world store.old) (S.world store.new) }
     {
@@ -106,23 +92,18 @@ impl RecLog {
     /// Opens the gate of the record that was written, and answers its number. The list then ends
     /// with that record.
     ///
-    /// It takes one write and one sync. After `Fault` it isn't known whether the record counts, and
-    /// the log is in doubt: only `open`, and what takes no store, may follow.
+    /// It takes one write and one sync, and makes no other call. After `Fault` it isn't known
+    /// whether the record counts, and the log is in doubt: only `open`, and what takes no store,
+    /// may follow.
     pub fn open_gate<S: Store>(&mut self, store: &mut S) -> Result<u64, RecError>
-        requires usable { self.old.in_doubt ≡ false }
-        requires written { self.old.has_body ≡ true }
-        requires stands { Stands self.old (file_of self.old.file (S.world store.old)) }
-        requires body { HasItsBody self.old (file_of self.old.file (S.world store.old)) }
+        requires ready { CanOpen self.old (S.world store.old) }
         ensures run { KeepsOrAddsBody self.old (S.world store.old) (S.world store.new) }
-        ensures stands { OnOk result (Stands self.new (file_of self.old.file (S.world store.new))) }
-        ensures list { OnOk result
-            (AddsBody self.old self.new (S.world store.old) (S.world store.new)) }
+        ensures calls { IsOnePut self.old.file self.old.place (OPEN ∷ [])
+            (S.world store.old) (S.world store.new) }
         ensures number { IfOk result (λ n. n ≡ self.old.next) }
-        ensures ok { OnOk result ((self.new.next ≡ self.old.next + 1) × IsClear self.new
-            × (self.new.has_body ≡ false) × (self.new.in_doubt ≡ false)) }
-        ensures place { OnOk result (self.new.place ≡ self.old.clear_from) }
-        ensures region { (self.new.file ≡ self.old.file) × (self.new.start ≡ self.old.start)
-            × (self.new.end ≡ self.old.end) × (self.new.first ≡ self.old.first) }
+        ensures added { OnOk result
+            (IsAdded self.old self.new (S.world store.old) (S.world store.new)) }
+        ensures region { SameRegion self.old self.new }
         ensures err { OnErr result (self.new ≡ record self.old { in_doubt = true }) }
         ensures refusal { IfErr result (λ e. e ≡ RecError.Fault) }
         ensures cause { HasCause self.old.file (S.world store.old) (S.world store.new) result }

@@ -1,9 +1,8 @@
 //! Crashes of a play, and what file 0 opens to behind each.
 
 use crate::found::{Found, open};
-use crate::line::Line;
 use crate::play::Play;
-use crate::stop::Stop;
+use odb_row_scripts::{Line, Stop};
 use odb_rowfile::number_of;
 use std::alloc::{AllocError, Global};
 
@@ -78,8 +77,9 @@ fn read_range(word: &str, end: u32) -> Option<(u32, u32)> {
 }
 
 impl Play {
+    /// `crash FIRST..LAST PICK .. opens ..`: what each of these crashes leaves file 0 to open to.
     pub(crate) fn hold_crashes(&mut self, alloc: Global, mut line: Line<'_>) -> Result<(), Stop> {
-        let end = self.host.calls();
+        let end = self.machine.calls();
         let Some((first, last)) = read_range(line.word(), end) else {
             return Err(line.wrong(alloc, "no calls"));
         };
@@ -106,13 +106,36 @@ impl Play {
         wanted: Found,
     ) -> Result<(), Stop> {
         self.count(1);
-        let mut left = self.crashed(alloc, line, calls, pick)?;
-        let (found, _entries) = open(alloc, line.number, &mut left)?;
+        let found = self.found_behind(alloc, line, calls, pick)?;
         if found == wanted {
             return Ok(());
         }
-        let found = found.text(alloc)?;
-        let why = format!(in alloc; "behind {calls} calls by {pick} {found}")?;
-        Err(line.wrong(alloc, why.as_str()))
+        Err(another(alloc, line, calls, pick, found))
     }
+
+    /// What a crash leaves file 0 to open to.
+    fn found_behind(
+        &self,
+        alloc: Global,
+        line: Line<'_>,
+        calls: u32,
+        pick: u64,
+    ) -> Result<Found, Stop> {
+        let mut left = self.crashed(alloc, line, calls, pick)?;
+        let (found, _entries) = open(alloc, line.number, &mut left)?;
+        Ok(found)
+    }
+}
+
+/// That a crash leaves file 0 to open to this.
+fn another(alloc: Global, line: Line<'_>, calls: u32, pick: u64, found: Found) -> Stop {
+    match told(alloc, calls, pick, found) {
+        Ok(why) => line.wrong(alloc, why.as_str()),
+        Err(_) => Stop::NoMemory,
+    }
+}
+
+fn told(alloc: Global, calls: u32, pick: u64, found: Found) -> Result<String, AllocError> {
+    let found = found.text(alloc)?;
+    format!(in alloc; "behind {calls} calls by {pick} {found}")
 }

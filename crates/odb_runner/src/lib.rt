@@ -13,16 +13,9 @@
 //! - `with NAME`: the files are those that the row NAME kept, which stands above it.
 //! - `put FILE AT HEX`, `cut FILE LENGTH`, `no FILE`: bytes are put over those of a file, it is
 //!   cut, it is empty.
-//! - `fail CALL`: this call on the host fails, counted from 0 in the play; it may stand again.
-//! - `words WORD ..`, `word TEXT`: the words of the command line, which are `play` alone unless it
-//!   is said; one word more.
 //!
-//! The script and its replies, with the escapes of row files:
-//!
-//! - `< TEXT`, `<| TEXT`, `<* COUNT TEXT`: a line of the script; a text without LF; a text so many
-//!   times without LF.
-//! - `> TEXT`, `>..`: a line that is said; any number of lines up to the next one that is wanted,
-//!   or to the end. `>| TEXT` and `>* COUNT TEXT` are for a text without LF.
+//! The script with its replies, the words of the command line and the calls that fail stand in
+//! lines of which `odb_row_scripts` tells the forms.
 //!
 //! What holds then:
 //!
@@ -55,14 +48,10 @@
 
 mod crashes;
 mod found;
-mod line;
+mod machine;
 mod outcome;
 mod play;
-mod replies;
 mod runner;
-mod serial;
 mod setup;
-mod stop;
-mod texts;
 
 pub use runner::ScriptRunner;

@@ -1,13 +1,8 @@
 //! One play of a row.
 
-use crate::found::{copied, empty_host, open};
-use crate::line::Line;
-use crate::replies::{Wanted, compare};
-use crate::serial::compare_alone;
-use crate::stop::Stop;
-use odb_memstore::MemHost;
+use crate::machine::Machine;
 use odb_model::Status;
-use odb_tool::run;
+use odb_row_scripts::{Line, Script, Stop};
 use std::alloc::{AllocError, Global};
 
 /// How many KiB a host has room for unless a row says it.
@@ -16,13 +11,8 @@ const ROOM: u32 = 1024;
 /// One play of a row: first what it begins with, then what it left.
 #[derive(Drop)]
 pub(crate) struct Play {
-    /// How many KiB the host has room for.
-    pub(crate) room: u32,
-    pub(crate) host: MemHost,
-    pub(crate) words: Vec<String>,
-    pub(crate) failing: Vec<u32>,
-    pub(crate) script: Vec<u8>,
-    pub(crate) wanted: Vec<Wanted>,
+    pub(crate) machine: Machine,
+    pub(crate) script: Script,
     /// How it ended, once it was made.
     pub(crate) ended: Option<Status>,
     /// How many comparisons the row's plays made, and how many transactions were run alone.
@@ -33,29 +23,20 @@ pub(crate) struct Play {
 impl Play {
     /// A play over no files.
     pub(crate) fn new(alloc: Global) -> Result<Play, Stop> {
-        let mut play = Play {
-            room: ROOM,
-            host: empty_host(alloc, ROOM)?,
-            words: Vec::new(alloc),
-            failing: Vec::new(alloc),
-            script: Vec::new(alloc),
-            wanted: Vec::new(alloc),
+        let script = Script::new(alloc)?;
+        let machine = Machine::new(alloc, ROOM)?;
+        Ok(Play {
+            machine,
+            script,
             ended: None,
             checks: 0,
             serial: 0,
-        };
-        play.restart(alloc)?;
-        Ok(play)
+        })
     }
 
     /// Begins another play over the host's files, of which nothing is said yet.
     pub(crate) fn restart(&mut self, alloc: Global) -> Result<(), AllocError> {
-        let mut words = Vec::new(alloc);
-        words.push(String::from_str(alloc, "play")?)?;
-        self.words = words;
-        self.failing = Vec::new(alloc);
-        self.script = Vec::new(alloc);
-        self.wanted = Vec::new(alloc);
+        self.script = Script::new(alloc)?;
         self.ended = None;
         Ok(())
     }
@@ -78,28 +59,62 @@ impl Play {
 
     /// Feeds the host and calls `run`.
     fn make(&mut self, alloc: Global) -> Result<Status, Stop> {
-        for call in &self.failing {
-            self.host.fail(alloc, *call)?;
-        }
-        self.host.feed(alloc, self.script.as_slice())?;
-        Ok(run(alloc, self.words.as_slice(), &mut self.host))
+        make(alloc, &mut self.machine, &self.script)
     }
 
     /// Compares what was said with what is wanted, and with what the plain execution says.
     fn compare(&mut self, alloc: Global, line: u64) -> Result<(), Stop> {
-        let said = self.host.said();
-        let checks = compare(alloc, line, said, self.wanted.as_slice())?;
-        let mut copy = copied(alloc, &self.host, self.room)?;
-        let (_, entries) = open(alloc, line, &mut copy)?;
-        let serial = compare_alone(
-            alloc,
-            line,
-            self.script.as_slice(),
-            said,
-            entries.as_slice(),
-        )?;
+        let checks = self.script.compare(alloc, line, self.machine.said())?;
+        let serial = self.compared_alone(alloc, line, self.machine.said())?;
         self.serial = self.serial.saturating_add(serial);
         self.count(checks);
+        Ok(())
+    }
+
+    /// Compares replies to the script with those of transactions that run alone behind the entries
+    /// of file 0, and answers how many there were.
+    fn compared_alone(&self, alloc: Global, line: u64, said: &[u8]) -> Result<u64, Stop> {
+        let (_found, entries) = self.found(alloc, line)?;
+        self.script
+            .compare_alone(alloc, line, said, entries.as_slice())
+    }
+
+    /// Has a line compare the script and its replies without a play, or answers that its first word
+    /// isn't one for that.
+    pub(crate) fn compare_unplayed(
+        &mut self,
+        alloc: Global,
+        word: &str,
+        line: Line<'_>,
+    ) -> Result<bool, Stop> {
+        if word != "canonical" && word != "alone" {
+            return Ok(false);
+        }
+        line.end(alloc)?;
+        if self.ended.is_some() {
+            return Err(line.wrong(alloc, "it stands behind what a play leaves"));
+        }
+        self.compare_texts(alloc, word, line)?;
+        self.ended = Some(Status::Done);
+        Ok(true)
+    }
+
+    fn compare_texts(&mut self, alloc: Global, word: &str, line: Line<'_>) -> Result<(), Stop> {
+        if word == "canonical" {
+            self.script.compare_canonical(alloc, line)?;
+            self.count(2);
+            return Ok(());
+        }
+        self.compare_replies_alone(alloc, line)
+    }
+
+    /// The replies that are wanted are those of transactions that run alone behind the entries of
+    /// file 0.
+    fn compare_replies_alone(&mut self, alloc: Global, line: Line<'_>) -> Result<(), Stop> {
+        let wanted = self.script.wanted_text(alloc)?;
+        let serial = self.compared_alone(alloc, line.number, wanted.as_slice())?;
+        self.serial = self.serial.saturating_add(serial);
+        self.count(serial);
         Ok(())
     }
 
@@ -119,4 +134,13 @@ impl Play {
         }
         Ok(true)
     }
+}
+
+/// Plays a script on a machine.
+fn make(alloc: Global, machine: &mut Machine, script: &Script) -> Result<Status, Stop> {
+    for call in &script.failing {
+        machine.fail(alloc, *call)?;
+    }
+    machine.feed(alloc, script.text.as_slice())?;
+    Ok(machine.run(alloc, script.words.as_slice()))
 }

@@ -1,10 +1,8 @@
 //! The runner of rows of whole scripts.
 
-use crate::found::copied;
-use crate::line::Line;
+use crate::machine::Machine;
 use crate::play::Play;
-use crate::stop::{Stop, wrong};
-use odb_memstore::MemHost;
+use odb_row_scripts::{Line, Stop, wrong};
 use odb_rowfile::{Row, RowLine, RowRunner, Verdict, split_word};
 use std::alloc::{AllocError, Global};
 
@@ -12,8 +10,7 @@ use std::alloc::{AllocError, Global};
 #[derive(Drop)]
 struct Kept {
     name: String,
-    host: MemHost,
-    room: u32,
+    machine: Machine,
 }
 
 /// Runs rows of whole scripts, and counts the transactions that were run alone.
@@ -35,14 +32,20 @@ impl ScriptRunner {
     /// Runs a row's lines, and answers how many comparisons were made.
     fn run_lines(&mut self, alloc: Global, row: &Row) -> Result<u64, Stop> {
         let mut play = Play::new(alloc)?;
+        self.play(alloc, row, &mut play)?;
+        self.serial = self.serial.saturating_add(play.serial);
+        Ok(play.checks)
+    }
+
+    /// Makes a row's plays.
+    fn play(&mut self, alloc: Global, row: &Row, play: &mut Play) -> Result<(), Stop> {
         let mut last = 0;
         for line in &row.lines {
             last = line.number;
-            self.run_line(alloc, row.name.as_str(), &mut play, line)?;
+            self.run_line(alloc, row.name.as_str(), play, line)?;
         }
         play.end(alloc, last)?;
-        self.serial = self.serial.saturating_add(play.serial);
-        Ok(play.checks)
+        Ok(())
     }
 
     fn run_line(
@@ -83,14 +86,21 @@ impl ScriptRunner {
         if word != "with" {
             return Ok(false);
         }
+        let Some(machine) = self.kept_by(line.rest) else {
+            return Err(wrong(alloc, line.number, "no row above keeps files by this name"));
+        };
+        play.machine = machine.copied(alloc)?;
+        Ok(true)
+    }
+
+    /// The machine that the row of this name kept.
+    fn kept_by(&self, name: &str) -> Option<&Machine> {
         for kept in &self.kept {
-            if kept.name.as_str() == line.rest {
-                let host = copied(alloc, &kept.host, kept.room)?;
-                play.begin_with(host, kept.room);
-                return Ok(true);
+            if kept.name.as_str() == name {
+                return Some(&kept.machine);
             }
         }
-        Err(wrong(alloc, line.number, "no row above keeps files by this name"))
+        None
     }
 
     /// Keeps the files that a play left, where the line's first word is `keep`.
@@ -107,13 +117,17 @@ impl ScriptRunner {
         }
         line.end(alloc)?;
         play.end(alloc, line.number)?;
-        let kept = Kept {
-            name: String::from_str(alloc, name)?,
-            host: copied(alloc, &play.host, play.room)?,
-            room: play.room,
-        };
-        self.kept.push(kept).map_err(AllocError::from)?;
+        self.put(alloc, name, &play.machine)?;
         Ok(true)
+    }
+
+    fn put(&mut self, alloc: Global, name: &str, machine: &Machine) -> Result<(), Stop> {
+        let machine = machine.copied(alloc)?;
+        let name = String::from_str(alloc, name)?;
+        self.kept
+            .push(Kept { name, machine })
+            .map_err(AllocError::from)?;
+        Ok(())
     }
 }
 

@@ -10,7 +10,7 @@ use Rattle.odb_device.specs.Images.{part}
 use Rattle.odb_device.specs.Calls.{CallsOn, Stays, HasRead}
 use Rattle.odb_device.specs.Told.{IfTold, OnlyReads}
 use Rattle.odb_device.proofs.Bytes.{part_at}
-use Rattle.odb_device.proofs.Time.{begins, goes_on, run_end, joins, weakens}
+use Rattle.odb_device.proofs.Time.{begins, goes_on, run_end, reads_then}
 use Rattle.odb_slots.specs.Slots.{OPEN, slot_place, gate_at, body_at, behind}
 use Rattle.odb_slots.specs.Bodies.{IsInGrammar, item_in}
 use Rattle.odb_slots.specs.Views.{item_of, spelled, added, records_in, IsMalformed}
@@ -22,12 +22,6 @@ use Rattle.odb_slots.specs.declared.item.SlotItem.{SlotItem}
 -- one read
 pub reads_one : (file : ℕ) (old new : World) → CallsOn file old new → Stays file old new → OnlyReads file old new
 reads_one file old new call same = goes_on file (λ f. f ≡ file_of file old) old old new (begins file (λ f. f ≡ file_of file old) old refl) call same
-
--- one behind another
-pub reads_then : (file : ℕ) (old mid new : World) → OnlyReads file old mid → OnlyReads file mid new → OnlyReads file old new
-reads_then file old mid new a b =
-    joins file (λ f. f ≡ file_of file old) old mid new a
-    (weakens file (λ f. f ≡ file_of file mid) (λ f. f ≡ file_of file old) mid new (λ o is. is ∙ run_end file (λ f. f ≡ file_of file old) old mid a) b)
 
 -- a part of a part
 part-part : (at m i n : ℕ) (bytes : List ℕ) → i + n ≤ m → part i n (part at m bytes) ≡ part (at + i) n bytes

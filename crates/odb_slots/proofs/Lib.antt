@@ -3,3 +3,4 @@ pub mod Imaging
 pub mod Filling
 pub mod Finding
 pub mod Places
+pub mod Listing

@@ -1,9 +1,9 @@
 //! The laws of slots, each the contract of a function with nothing to do.
-ghost use Rattle.std.specs.Prelude.{◌≡◌, ◌≢◌, ℕ, Some, Option, List as ListOf, length};
+ghost use Rattle.std.specs.Prelude.{◌≡◌, ◌≢◌, ◌<◌, ℕ, Some, Option, List as ListOf, length, slice_get};
 ghost use Rattle.odb_device.specs.TornSets.{TornIn};
 ghost use Rattle.odb_slots.specs.Slots.{OPEN, gate_at};
 ghost use Rattle.odb_slots.specs.Bodies.{IsInGrammar, IsTyped, slot_image, item_in};
-ghost use Rattle.odb_slots.specs.Views.{item_of, view_of};
+ghost use Rattle.odb_slots.specs.Views.{item_of, view_of, records_in};
 ghost use Rattle.odb_slots.specs.Sets.{GatesOf, BodiesOf, IsOneOf};
 ghost use Rattle.odb_slots.specs.Between.{IsLong, DiffersIn, IsBetween};
 ghost use Rattle.odb_slots.specs.declared.item.SlotItem.{SlotItem as Item};
@@ -29,4 +29,14 @@ pub fn leaves_records()
         → IsBetween item_of (IsOneOf slots) limit less more old
         → TornIn (GatesOf (IsOneOf slots)) end old new
         → IsBetween item_of (IsOneOf slots) limit less more new }
+{}
+
+/// The list of a file's records has just the items that its slots have.
+pub fn lists_records()
+    ensures each { (n k : ℕ) (bytes : ListOf ℕ) (item : Item)
+        → slice_get (records_in n bytes) k ≡ Some item
+        → (item.slot < n) × (view_of n bytes item.slot ≡ Some item) }
+    ensures all { (n slot : ℕ) (bytes : ListOf ℕ) (item : Item)
+        → slot < n → view_of n bytes slot ≡ Some item
+        → (k : ℕ) × (slice_get (records_in n bytes) k ≡ Some item) }
 {}

@@ -18,6 +18,6 @@ pub use bodies::put_bodies;
 pub use error::SlotError;
 pub use gates::{close_stale, open_gates};
 pub use item::{SlotItem, SlotItems};
-pub use laws::{leaves_records, reads_images};
+pub use laws::{leaves_records, lists_records, reads_images};
 pub use scanning::scan;
 pub use slot::read_slot;

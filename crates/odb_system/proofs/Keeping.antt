@@ -1,5 +1,5 @@
 -- How the files of a machine are kept through a step that writes TRANSDB alone.
-use Rattle.std.proofs.Common.{◌≡◌, ◌≢◌, ◌⊎◌, inl, inr, ℕ, ◌≤◌, false, List, [], ◌∷◌, length, Option, Some, None, sym, ◌∙◌, ap, subst, refl, arith}
+use Rattle.std.proofs.Common.{◌≡◌, ◌≢◌, ◌⊎◌, inl, inr, ℕ, ◌≤◌, true, false, List, [], ◌∷◌, length, Option, Some, None, sym, ◌∙◌, ap, subst, refl, arith}
 use Rattle.std.specs.Prelude.{is_some}
 use Rattle.odb_device.specs.World.{File, Moment, World, present, file_of}
 use Rattle.odb_device.specs.Images.{IsImage, EachImage, end_of}
@@ -13,17 +13,18 @@ use Rattle.odb_kept.proofs.Keeping.{kept_whole, step_kept}
 use Rattle.odb_model.specs.declared.entry.Entry.{Entry}
 use Rattle.odb_model.specs.declared.event.Event.{Event}
 use Rattle.odb_model.specs.declared.reply.Reply.{Reply}
-use Rattle.odb_model.specs.declared.reply.Reply.TheVariants.{InDoubt}
+use Rattle.odb_model.specs.declared.reply.Reply.TheVariants.{Committed, Fault, InDoubt}
+use Rattle.odb_model.specs.Book.{Seen}
 use Rattle.odb_model.specs.Machine.{Machine, with_doubt, history_or_more}
 use Rattle.odb_transdb.specs.declared.header.Header.{Header}
 use Rattle.odb_transdb.specs.Header.{first_held}
-use Rattle.odb_codec.specs.Image.{entry_image}
 use Rattle.odb_transdb.specs.Opened.{Holds, holding, entries_in}
-use Rattle.odb_transdb.specs.Standing.{Stands}
-use Rattle.odb_transdb.specs.Answers.{RoseAtGate}
-use Rattle.odb_system.specs.Held.{Held, StandsFor, Begins, Follows, side_of}
-use Rattle.odb_system.specs.Durable.{history_or_more_of, HoldsThroughout, IsDurableBy, IsDurable, CausedBy, Risen}
-use Rattle.odb_system.specs.Kept.{OpensBy, IsKept, Rests, IsDoubtCaused, Stepped}
+use Rattle.odb_transdb.specs.Standing.{Db, Stands}
+use Rattle.odb_transdb.specs.Answers.{HoldsAll}
+use Rattle.odb_transdb.specs.Worlds.{WritesFromGate, WritesBehindGate}
+use Rattle.odb_system.specs.Held.{Held, StandsFor, Begins, Follows, sides_of, told_by}
+use Rattle.odb_system.specs.Durable.{history_or_more_of, HoldsThroughout, IsDurableBy, IsDurable, CausedBy, Risen, HeldWritesWithin, HeldWrites}
+use Rattle.odb_system.specs.Kept.{OpensBy, IsKept, Rests, RoseFromGate, IsDoubtCaused, WritesWithinLog, StepWrites, Stepped}
 use Rattle.odb_system.proofs.Resting.{holds_by}
 
 -- of the other files nothing is asked
@@ -50,7 +51,8 @@ module _ (held : Held) (m : Machine) (stands : StandsFor held m) (whole : first_
   opens_by : (h : Header) (es entries : List Entry) (image : List ℕ) → h ≡ held.transdb.header → es ≡ entries → Holds h es image → OpensBy m entries image
   opens_by h es entries image header same holds = record {
     header = h;
-    side = stands.side ∙ ap side_of (sym header);
+    format = stands.format ∙ ap (λ (x : Header). x.format) (sym header);
+    sides = stands.sides ∙ ap sides_of (sym header);
     first = ap first_held header ∙ whole;
     holds = subst (λ (x : List Entry). Holds h x image) same holds;
   }
@@ -119,23 +121,50 @@ untold_each P (Some f) none = cc
 doubt_caused : (m after_m : Machine) (reply : Reply) (before after : Held) (old new : World) → StandsFor before m → StandsFor after after_m → CausedBy before reply after old new → IsDoubtCaused m reply after_m old new
 doubt_caused m after_m (InDoubt k) before after old new stands then_ cause = record {
   log = before.transdb;
-  side = stands.side;
+  format = stands.format;
+  sides = stands.sides;
   begins = subst (Begins before.transdb) stands.history cause.begins;
   entry = cause.entry;
   doubt = sym then_.in_doubt ∙ cause.doubt;
-  rose = subst (λ (h : List Entry). RoseAtGate before.transdb h (entry_image cause.entry) old new) stands.history cause.rose;
+  rose = cause.rose;
+  alone = subst (λ (h : List Entry). Runs 0 (HoldsAll before.transdb h) old cause.rose.mid) stands.history cause.alone;
 }
 doubt_caused m after_m reply before after old new stands then_ cause = tt
 
+-- only a reply of doubt tells that the count rose from the gate on
+gate_caused : (m after_m : Machine) (reply : Reply) (seen : Seen) (old new : World) → seen ≡ told_by reply → IsDoubtCaused m reply after_m old new → seen.rose_at_gate ≡ true
+    → RoseFromGate m after_m old new
+gate_caused m after_m (InDoubt k) seen old new told caused up = caused
+gate_caused m after_m reply seen old new told caused up = let never : false ≡ true = sym (ap (λ (x : Seen). x.rose_at_gate) told) ∙ up in cc
+
+-- what was written in the log of a system that stands for the machine
+within_log : (Bounds : Db → World → World → Type 0) (m : Machine) (before : Held) (old new : World) → StandsFor before m → HeldWritesWithin Bounds before old new → WritesWithinLog Bounds m old new
+within_log Bounds m before old new stands written = record {
+  log = before.transdb;
+  format = stands.format;
+  sides = stands.sides;
+  begins = subst (Begins before.transdb) stands.history written.begins;
+  only = written.only;
+}
+
+step_written : (m : Machine) (reply : Reply) (before : Held) (old new : World) → StandsFor before m → HeldWrites before reply old new → StepWrites m reply old new
+step_written m (Committed k) before old new stands written = within_log WritesFromGate m before old new stands written
+step_written m (Fault f) before old new stands written = within_log WritesBehindGate m before old new stands written
+step_written m (InDoubt k) before old new stands written = within_log WritesFromGate m before old new stands written
+step_written m reply before old new stands same = same
+
 -- the step of a system that stands for the machines before and after it
 module _ (m : Machine) (event : Event) (reply : Reply) (before after : Held) (old new : World) (stands : StandsFor before m)
-    (follows : Follows (Risen old new) m event reply after) (cause : CausedBy before reply after old new) (same : after.transdb.header ≡ before.transdb.header)
+    (follows : Follows (Risen old new) m event reply after) (cause : CausedBy before reply after old new) (written : HeldWrites before reply old new) (same : after.transdb.header ≡ before.transdb.header)
     (run : Runs 0 (HoldsThroughout before after) old new) where
   either_of : List ℕ → Type 0
   either_of image = IsKept m 0 image ⊎ IsKept follows.after 0 image
 
   doubt : IsDoubtCaused m reply follows.after old new
   doubt = doubt_caused m follows.after reply before after old new stands follows.stands cause
+
+  from_gate : follows.seen.rose_at_gate ≡ true → RoseFromGate m follows.after old new
+  from_gate = gate_caused m follows.after reply follows.seen old new follows.told doubt
 
   keeps_by : Runs 0 (EachImage either_of) old new → Steps (KeptByEither (IsKept m) (IsKept follows.after)) old new
   unfolding either_of
@@ -156,6 +185,8 @@ module _ (m : Machine) (event : Event) (reply : Reply) (before after : Held) (ol
     stepped_told = record {
       follows = follows;
       doubt = doubt;
+      from_gate = from_gate;
+      writes = step_written m reply before old new stands written;
       keeps = keeps_by (weakens 0 (HoldsThroughout before after) (EachImage either_of) old new
           (λ file. each_weakens (λ image. Holds before.transdb.header before.history image ⊎ Holds before.transdb.header (history_or_more_of after) image) either_of file moves) run);
       quiet = quiet;
@@ -169,6 +200,8 @@ module _ (m : Machine) (event : Event) (reply : Reply) (before after : Held) (ol
       record {
         follows = follows;
         doubt = doubt;
+        from_gate = from_gate;
+        writes = step_written m reply before old new stands written;
         keeps = keeps_by (record { only = run.only; each = λ k from to. untold_each either_of ((new.moment k).files 0) (run.only.told k from to ∙ none) });
         quiet = quiet;
         rests = record {

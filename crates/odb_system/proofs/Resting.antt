@@ -12,19 +12,21 @@ use Rattle.odb_model.specs.declared.write.Write.{Write}
 use Rattle.odb_model.specs.declared.entry.Entry.{Entry}
 use Rattle.odb_model.specs.declared.outcome.Outcome.{Outcome}
 use Rattle.odb_model.specs.declared.reply.Reply.{Reply}
-use Rattle.odb_model.specs.declared.reply.Reply.TheVariants.{Okay, InTransaction, Ended, NoTransaction, Conflict, Memory}
+use Rattle.odb_model.specs.declared.reply.Reply.TheVariants.{Okay, InTransaction, Ended, NoTransaction, Halted, Conflict, Memory}
 use Rattle.odb_model.specs.declared.statement.Statement.{Statement}
 use Rattle.odb_model.specs.State.{after_writes, replay}
-use Rattle.odb_model.specs.Meaning.{meaning, is_built}
+use Rattle.odb_model.specs.Meaning.{is_built}
 use Rattle.odb_model.specs.Reads.{reads}
-use Rattle.odb_model.specs.Transaction.{table_keys, net, first_conflict, read_at}
+use Rattle.odb_model.specs.Transaction.{meaning_over, net, first_conflict, read_at}
+use Rattle.odb_model.specs.Book.{Verdict, by_net, by_doubt}
+use Rattle.odb_model.specs.Book as book
 use Rattle.odb_model.specs.Machine.{with_doubt}
 use Rattle.odb_plain.specs.declared.form.Form.{Form}
 use Rattle.odb_plain.specs.declared.form.Form.TheVariants as form
 use Rattle.odb_plain.specs.Form.{statement_of}
 use Rattle.odb_transdb.specs.Opened.{Holds}
 use Rattle.odb_transdb.specs.Standing.{Db}
-use Rattle.odb_system.specs.Held.{Open, Held, IsOpen, IsHeld, Begins, none_open, session_at, with_open, meaning_in, grown, HeldStarts, HeldExecutes, HeldSeals, HeldDecidesBy, HeldCommits}
+use Rattle.odb_system.specs.Held.{Open, Held, IsOpen, IsHeld, Begins, none_open, session_at, with_open, state_in, meaning_in, grown, verdict_in, IsDecided, HeldStarts, HeldExecutes, HeldSeals, HeldCommits}
 use Rattle.odb_system.specs.Durable.{history_or_more_of, IsDurable, IsDurableBy, HoldsThroughout}
 
 -- each form is built
@@ -110,19 +112,18 @@ durable_resting held after file same durable =
     subst (λ (x : Held). IsDurable x file) is (durable_by held.in_doubt held after.sessions file durable)
 
 -- the transaction after a statement, from what the plain program answers
-pub grown_is : (held : Held) (st : Statement) (t new : Open) (h : List Entry) (write_set : List Write) (number : ℕ) (outcome : Outcome) → h ≡ held.history → write_set ≡ t.write_set
-    → number ≡ length held.history → outcome.reads ≡ reads st (replay h) → outcome.writes ≡ (meaning st (after_writes (replay h) write_set) (table_keys write_set)).writes
+pub grown_is : (held : Held) (st : Statement) (t new : Open) (h : List Entry) (write_set : List Write) (number format : ℕ) (outcome : Outcome) → h ≡ held.history → write_set ≡ t.write_set
+    → number ≡ length held.history → format ≡ held.transdb.header.format → outcome.reads ≡ reads st (after_writes (replay h) write_set) → outcome.writes ≡ (meaning_over st (replay h) write_set format).writes
     → new ≡ record { reads = t.reads ++ read_at number outcome.reads; write_set = t.write_set ++ outcome.writes } → new ≡ grown held st t
-grown_is held st t new h write_set number outcome h_is write_set_is number_is reads_is writes_is new_is =
-    let rs : outcome.reads ≡ reads st (replay held.history) = reads_is ∙ ap (λ h. reads st (replay h)) h_is in
-    let ws : outcome.writes ≡ (meaning_in held st t).writes =
-    writes_is ∙ ap (λ h. (meaning st (after_writes (replay h) write_set) (table_keys write_set)).writes) h_is ∙ ap (λ write_set. (meaning st (after_writes (replay held.history) write_set) (table_keys write_set)).writes) write_set_is in
+grown_is held st t new h write_set number format outcome h_is write_set_is number_is format_is reads_is writes_is new_is =
+    let rs : outcome.reads ≡ reads st (state_in held t) = reads_is ∙ λ i. reads st (after_writes (replay (h_is i)) (write_set_is i)) in
+    let ws : outcome.writes ≡ (meaning_in held st t).writes = writes_is ∙ λ i. (meaning_over st (replay (h_is i)) (write_set_is i) (format_is i)).writes in
     new_is ∙ λ i. record { reads = t.reads ++ read_at (number_is i) (rs i); write_set = t.write_set ++ ws i }
 
-pub reply_is : (held : Held) (st : Statement) (t : Open) (h : List Entry) (write_set : List Write) (reply : Reply) → h ≡ held.history → write_set ≡ t.write_set
-    → reply ≡ (meaning st (after_writes (replay h) write_set) (table_keys write_set)).reply → reply ≡ (meaning_in held st t).reply
-reply_is held st t h write_set reply h_is write_set_is is =
-    is ∙ ap (λ h. (meaning st (after_writes (replay h) write_set) (table_keys write_set)).reply) h_is ∙ ap (λ write_set. (meaning st (after_writes (replay held.history) write_set) (table_keys write_set)).reply) write_set_is
+pub reply_is : (held : Held) (st : Statement) (t : Open) (h : List Entry) (write_set : List Write) (format : ℕ) (reply : Reply) → h ≡ held.history → write_set ≡ t.write_set → format ≡ held.transdb.header.format
+    → reply ≡ (meaning_over st (replay h) write_set format).reply → reply ≡ (meaning_in held st t).reply
+reply_is held st t h write_set format reply h_is write_set_is format_is is =
+    is ∙ λ i. (meaning_over st (replay (h_is i)) (write_set_is i) (format_is i)).reply
 
 -- an item put where it stands
 set_same : {A : Type 0} (xs : List A) (i : ℕ) (x : A) → x ≡ slice_index_or xs i x → slice_set xs i x ≡ xs
@@ -138,15 +139,41 @@ executes_none held at st x within is none =
     let same : record held { sessions = slice_set held.sessions at x } ≡ held = ap (λ xs. record held { sessions = xs }) (set_same held.sessions at x is) in
     subst (λ (o : Option Open). HeldExecutes held at st o NoTransaction (record held { sessions = slice_set held.sessions at x })) (sym idle) same
 
-commits_by : (d : Option Entry) (held : Held) (at : ℕ) (t : Open) (reply : Reply) (after : Held) → d ≡ None → first_conflict t.reads held.history ≡ None
-    → net (replay held.history) t.write_set ≢ [] → HeldSeals held at (net (replay held.history) t.write_set) reply after → HeldDecidesBy d held at t reply after
-commits_by (Some e) held at t reply after settled none some seals = cc
-commits_by None held at t (Conflict j) after settled none some seals = absurd seals
-commits_by None held at t (Ended p) after settled none some seals = absurd seals
-commits_by None held at t reply after settled none some seals = (none, some, seals)
+-- the verdict, by what it is judged by
+verdict_is : (held : Held) (t : Open) (d : Option Entry) (later : Option ℕ) (ws : List Write) → held.in_doubt ≡ d → first_conflict t.reads held.history ≡ later
+    → net (replay held.history) t.write_set ≡ ws → verdict_in held t ≡ by_doubt d later (length held.history) ws
+verdict_is held t d later ws doubt conflict leaves = λ i. by_doubt (doubt i) (conflict i) (length held.history) (leaves i)
 
--- COMMIT of a transaction against which nothing stands
+decided_as : (held : Held) (at : ℕ) (t : Open) (v : Verdict) (reply : Reply) (after : Held) → verdict_in held t ≡ v → IsDecided held at v reply after → IsDecided held at (verdict_in held t) reply after
+decided_as held at t v reply after same decided = subst (λ (x : Verdict). IsDecided held at x reply after) (sym same) decided
+
+-- COMMIT of a transaction while an entry is in doubt
+pub commits_halted : (held : Held) (at : ℕ) (t : Open) (e : Entry) → held.in_doubt ≡ Some e → HeldCommits held at (Some t) (Halted e.number) held
+commits_halted held at t e doubt =
+    decided_as held at t (book.Halted e.number) (Halted e.number) held (verdict_is held t (Some e) (first_conflict t.reads held.history) (net (replay held.history) t.write_set) doubt refl refl)
+    (record { decides = (refl, refl); sessions = refl; header = refl })
+
+-- of one that conflicts
+pub commits_conflict : (held : Held) (at : ℕ) (t : Open) (j : ℕ) → held.in_doubt ≡ None → first_conflict t.reads held.history ≡ Some j → HeldCommits held at (Some t) (Conflict j) (with_open held at None)
+commits_conflict held at t j doubt conflict =
+    decided_as held at t (book.Conflict j) (Conflict j) (with_open held at None) (verdict_is held t None (Some j) (net (replay held.history) t.write_set) doubt conflict refl)
+    (record { decides = (refl, refl); sessions = refl; header = refl })
+
+-- of one that leaves nothing
+pub commits_ended : (held : Held) (at : ℕ) (t : Open) (p : ℕ) → held.in_doubt ≡ None → first_conflict t.reads held.history ≡ None → net (replay held.history) t.write_set ≡ [] → p ≡ length held.history
+    → HeldCommits held at (Some t) (Ended p) (with_open held at None)
+commits_ended held at t p doubt conflict leaves is =
+    decided_as held at t (book.Ended (length held.history)) (Ended p) (with_open held at None) (verdict_is held t None None [] doubt conflict leaves)
+    (record { decides = (is, refl); sessions = refl; header = refl })
+
+leaves_some : (n : ℕ) (ws : List Write) → ws ≢ [] → by_net n ws ≡ book.Writes ws
+leaves_some n [] some = absurd (some refl)
+leaves_some n (w ∷ ws) some = refl
+
+-- of one against which nothing stands
 pub commits : (held : Held) (at : ℕ) (t : Open) (reply : Reply) (after : Held) → held.in_doubt ≡ None → first_conflict t.reads held.history ≡ None
     → net (replay held.history) t.write_set ≢ [] → HeldSeals held at (net (replay held.history) t.write_set) reply after → HeldCommits held at (Some t) reply after
-commits held at t Memory after settled none some seals = seals
-commits held at t reply after settled none some seals = commits_by held.in_doubt held at t reply after settled none some seals
+commits held at t Memory after doubt conflict some seals = seals
+commits held at t reply after doubt conflict some seals =
+    let ws : List Write = net (replay held.history) t.write_set in
+    decided_as held at t (book.Writes ws) reply after (verdict_is held t None None ws doubt conflict refl ∙ leaves_some (length held.history) ws some) seals

@@ -11,6 +11,7 @@ use Rattle.odb_device.specs.Moments.{Runs}
 use Rattle.odb_device.proofs.Time.{weakens, run_end}
 use Rattle.odb_model.specs.declared.entry.Entry.{Entry}
 use Rattle.odb_model.specs.State.{IsHistory}
+use Rattle.odb_model.specs.Sides.{room_left, active_first as first_of_active}
 use Rattle.odb_model.specs.Width.{entry_width, record_width, records_width}
 use Rattle.odb_model.proofs.Runs.{IsNumberedFrom-snoc}
 use Rattle.odb_codec.specs.Image.{HasImage, entry_image}
@@ -22,17 +23,18 @@ use Rattle.odb_transdb.specs.declared.error.TransdbError.TheVariants.{Full, Faul
 use Rattle.odb_transdb.specs.Header.{side_size, side_start, first_held, active_first}
 use Rattle.odb_transdb.specs.Opened.{Holds, entries_in}
 use Rattle.odb_transdb.specs.Standing.{Db, IsPlaced, IsAdvanced, IsSettledIn, Stands, room_of}
-use Rattle.odb_transdb.specs.Answers.{IsForceAnswer, HoldsAll, HoldsAllOrMore, RoseAtGate}
-use Rattle.odb_system.specs.Held.{Open, Held, IsOpen, none_open, Begins, IsAsDoubted, IsHeld}
+use Rattle.odb_transdb.specs.Answers.{IsForceAnswer, HoldsAll, HoldsAllOrMore}
+use Rattle.odb_transdb.specs.Worlds.{RoseAtGate}
+use Rattle.odb_system.specs.Held.{Open, Held, IsOpen, none_open, sides_of, Begins, IsAsDoubted, IsHeld}
 use Rattle.odb_system.specs.Durable.{history_or_more_of, IsDurable, IsDurableBy, HoldsEither, HoldsThroughout, DoubtedAtGate}
-use Rattle.odb_system.specs.Room.{HasRoomLeft}
 
 -- the room of a log is what the records of the history leave of the active side
-pub room_agrees : (held : Held) → Begins held.transdb held.history → HasRoomLeft held
+pub room_agrees : (held : Held) → Begins held.transdb held.history → room_of held.transdb ≡ room_left (sides_of held.transdb.header) held.history
 room_agrees held begins =
     let db = held.transdb in
     let end : db.active.end ≡ db.active.start + side_size db.header = begins.placed.side.end ∙ ap (λ n. n + side_size db.header) (sym begins.placed.side.start) in
-    omega (arith, end, begins.filled, begins.placed.place)
+    let filled : records_width (drop (first_of_active (sides_of db.header) - 1) held.history) ≡ db.active.place - db.active.start = begins.filled in
+    omega (arith, end, filled, begins.placed.place)
 
 -- a history with its next entry is one
 pub history_grows : (h : List Entry) (e : Entry) → IsHistory h → e.number ≡ length h + 1 → IsHistory (h ++ e ∷ [])
@@ -224,27 +226,23 @@ untold_holds : (db : Db) (h : List Entry) (o : Option File) → is_some o ≡ fa
 untold_holds db h None none = tt
 untold_holds db h (Some f) none = cc
 
-gate_of_history : (held : Held) (payload : List ℕ) (old new : World) → IfSome (file_of 0 old) (λ f. entries_in (Some f) ≡ held.history)
-    → RoseAtGate held.transdb (entries_in (file_of 0 old)) payload old new → RoseAtGate held.transdb held.history payload old new
-gate_of_history held payload old new same rose =
-    entries_told held.transdb held.history (file_of 0 old) (λ h. RoseAtGate held.transdb h payload old new) same
+alone_of_history : (held : Held) (payload : List ℕ) (old new : World) → IfSome (file_of 0 old) (λ f. entries_in (Some f) ≡ held.history)
+    → (rose : RoseAtGate held.transdb payload old new) → Runs 0 (HoldsAll held.transdb held.history) old rose.mid
+alone_of_history held payload old new same rose =
+    entries_told held.transdb held.history (file_of 0 old) (λ h. Runs 0 (HoldsAll held.transdb h) old rose.mid) same
     (λ none. record {
-      mid = rose.mid;
-      before = record {
-        only = rose.before.only;
-        each = λ k from to. untold_holds held.transdb held.history ((rose.mid.moment k).files 0) (rose.before.only.told k from to ∙ none);
-      };
-      body = rose.body;
-      only = rose.only;
-      rose = rose.rose;
-    }) rose
+      only = rose.before.only;
+      each = λ k from to. untold_holds held.transdb held.history ((rose.mid.moment k).files 0) (rose.before.only.told k from to ∙ none);
+    }) rose.before
 
 pub doubted_at_gate : (held after : Held) (e : Entry) (payload : List ℕ) (old new : World) → Begins held.transdb held.history → held.in_doubt ≡ None → IsDurable held (file_of 0 old) → after.in_doubt ≡ Some e
-    → payload ≡ entry_image e → RoseAtGate held.transdb (entries_in (file_of 0 old)) payload old new → DoubtedAtGate held after old new
-doubted_at_gate held after e payload old new begins settled durable doubt is rose = record {
-  begins = begins;
-  entry = e;
-  doubt = doubt;
-  rose = subst (λ (x : List ℕ). RoseAtGate held.transdb held.history x old new) is
-      (gate_of_history held payload old new (durable_entries held.in_doubt held (file_of 0 old) settled durable) rose);
-}
+    → payload ≡ entry_image e → RoseAtGate held.transdb payload old new → DoubtedAtGate held after old new
+doubted_at_gate held after e payload old new begins settled durable doubt is rose =
+    let by : RoseAtGate held.transdb (entry_image e) old new = subst (λ (x : List ℕ). RoseAtGate held.transdb x old new) is rose in
+    record {
+      begins = begins;
+      entry = e;
+      doubt = doubt;
+      rose = by;
+      alone = alone_of_history held (entry_image e) old new (durable_entries held.in_doubt held (file_of 0 old) settled durable) by;
+    }

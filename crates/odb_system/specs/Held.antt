@@ -1,28 +1,31 @@
 -- What a system holds, how its calls change it, and which machine it stands for.
-use Rattle.std.specs.Prelude.{◌≡◌, ◌≢◌, ℕ, ◌+◌, ◌-◌, ◌<◌, ◌≤◌, Bool, true, false, drop, List, [], ◌∷◌, ◌++◌, length, Option, Some, None, option_map, slice_get, slice_set, unwrap_or}
+use Rattle.std.specs.Prelude.{◌≡◌, ◌≢◌, ℕ, ◌+◌, ◌-◌, ◌==◌, Bool, true, false, drop, List, [], ◌++◌, length, Option, Some, None, slice_get, slice_set, unwrap_or, if◌then◌else◌}
 use Rattle.odb_model.specs.declared.numbers.TheConstants.{SESSIONS}
 use Rattle.odb_model.specs.declared.write.Write.{Write}
 use Rattle.odb_model.specs.declared.entry.Entry.{Entry}
 use Rattle.odb_model.specs.declared.outcome.Read.{Read}
 use Rattle.odb_model.specs.declared.reply.Reply.{Reply}
-use Rattle.odb_model.specs.declared.reply.Reply.TheVariants.{Okay, Committed, Ended, InDoubt, NoTransaction, InTransaction, Halted, Conflict, Full, Fault, Memory, NotYet}
+use Rattle.odb_model.specs.declared.reply.Reply.TheVariants.{Okay, InDoubt, NoTransaction, InTransaction, Fault, Memory, NotYet}
 use Rattle.odb_model.specs.declared.statement.Statement.{Statement}
 use Rattle.odb_model.specs.declared.statement.Statement.TheVariants.{Start, Commit, Select, Insert}
-use Rattle.odb_model.specs.State.{replay}
+use Rattle.odb_model.specs.State.{State, replay, after_writes}
 use Rattle.odb_model.specs.Meaning.{Meaning}
 use Rattle.odb_model.specs.Reads.{reads}
-use Rattle.odb_model.specs.Transaction.{Executed, meaning_over, write_set_of, read_at, reads_of, net, first_conflict}
+use Rattle.odb_model.specs.Transaction.{Executed, meaning_over, write_set_of, read_at, reads_of}
 use Rattle.odb_model.specs.Script.{IsSession}
 use Rattle.odb_model.specs.declared.event.Event.{Event}
-use Rattle.odb_model.specs.declared.event.Event.TheVariants.{Session, Control}
-use Rattle.odb_model.specs.Machine.{Machine, Side, Step}
+use Rattle.odb_model.specs.declared.event.Event.TheVariants.{Session as OfSession, Control}
+use Rattle.odb_model.specs.Session.{Session, Idle, Working}
+use Rattle.odb_model.specs.Sides.{Sides}
+use Rattle.odb_model.specs.Book.{Book, Seen, Verdict, Writes, judged, Decides, ends_transaction}
+use Rattle.odb_model.specs.Machine.{Machine, Step}
 use Rattle.odb_model.specs.State.{IsHistory}
 use Rattle.odb_model.specs.Storable.{AreStorable, IsStorableList}
-use Rattle.odb_model.specs.Width.{record_width, records_width}
+use Rattle.odb_model.specs.Width.{records_width}
 use Rattle.std.specs.List.{All}
 use Rattle.odb_transdb.specs.declared.header.Header.{Header}
 use Rattle.odb_transdb.specs.Header.{side_size, first_held, active_first}
-use Rattle.odb_transdb.specs.Standing.{Db, IsPlaced, room_of}
+use Rattle.odb_transdb.specs.Standing.{Db, IsPlaced}
 use Rattle.odb_model.specs.Serial.{AnsweredFromSnapshots}
 
 -- an open transaction: what it has read, and what it has written
@@ -86,40 +89,37 @@ session_at held at = unwrap_or (slice_get held.sessions at) None
 abbrev pub with_open : Held → ℕ → Option Open → Held
 with_open held at t = record held { sessions = slice_set held.sessions at t }
 
--- what the session at a place would add to the history with these writes
-abbrev pub next_of : Held → ℕ → List Write → Entry
-next_of held at writes =
-    record { number = length held.history + 1; by = at + 1; writes = writes }
+-- TRANSDB as a machine sees it
+abbrev pub sides_of : Header → Sides
+sides_of h = record {
+  side_size = side_size h;
+  active = h.active;
+  other = h.other;
+  first0 = h.first0;
+  first1 = h.first1;
+}
 
--- that is the next entry, its record is in the log, and the session is idle
-pub record IsSealed (held : Held) (at : ℕ) (writes : List Write) (after : Held) : Type 0 where
-  pub history : after.history ≡ held.history ++ next_of held at writes ∷ []
-  pub sessions : after.sessions ≡ (with_open held at None).sessions
-  pub header : after.transdb.header ≡ held.transdb.header
-  pub in_doubt : after.in_doubt ≡ None
+-- what a commit is judged by
+abbrev pub book_in : Held → Book
+book_in held = record {
+  history = held.history;
+  sides = sides_of held.transdb.header;
+  in_doubt = held.in_doubt;
+}
 
--- it isn't known whether it is, and the session is idle
-pub record IsDoubted (held : Held) (at : ℕ) (writes : List Write) (after : Held) : Type 0 where
-  pub history : after.history ≡ held.history
-  pub sessions : after.sessions ≡ (with_open held at None).sessions
-  pub header : after.transdb.header ≡ held.transdb.header
-  pub in_doubt : after.in_doubt ≡ Some (next_of held at writes)
-
--- all is as before, but for what the log knows of its tail
-pub record IsAsBefore (held after : Held) : Type 0 where
-  pub history : after.history ≡ held.history
-  pub sessions : after.sessions ≡ held.sessions
-  pub header : after.transdb.header ≡ held.transdb.header
-  pub in_doubt : after.in_doubt ≡ held.in_doubt
+-- the state on which a statement of an open transaction runs
+abbrev pub state_in : Held → Open → State
+state_in held t = after_writes (replay held.history) t.write_set
 
 -- what a statement means in an open transaction
 abbrev pub meaning_in : Held → Statement → Open → Meaning
-meaning_in held st t = meaning_over st (replay held.history) t.write_set
+meaning_in held st t =
+    meaning_over st (replay held.history) t.write_set held.transdb.header.format
 
 -- the transaction after a statement
 abbrev pub grown : Held → Statement → Open → Open
 grown held st t =
-    extended t (read_at (length held.history) (reads st (replay held.history)))
+    extended t (read_at (length held.history) (reads st (state_in held t)))
     (meaning_in held st t).writes
 
 abbrev pub HeldStarts : Held → ℕ → Option Open → Reply → Held → Type 0
@@ -139,51 +139,57 @@ pub record CanSeal (held : Held) (writes : List Write) : Type 0 where
   pub some : writes ≢ []
   pub storable : IsStorableList writes
 
--- the bytes of the record of that entry
-abbrev pub need_of : Held → ℕ → List Write → ℕ
-need_of held at writes = record_width (next_of held at writes)
+-- the files of whose faults a reply tells
+abbrev pub tells_of_fault : Reply → ℕ → Bool
+tells_of_fault (Fault f) file = file == f
+tells_of_fault (InDoubt k) file = file == 0
+tells_of_fault reply file = false
 
--- the log has room for that record
-abbrev pub Fits : Held → ℕ → List Write → Type 0
-Fits held at writes = need_of held at writes ≤ room_of held.transdb
+-- of TRANSDB
+abbrev pub is_fault : Reply → Bool
+is_fault (Fault f) = f == 0
+is_fault reply = false
 
--- the record is forced, or why it isn't
+abbrev pub is_in_doubt : Reply → Bool
+is_in_doubt (InDoubt k) = true
+is_in_doubt reply = false
+
+-- what a reply tells of the step: a fault before the record's gate was written, or from then on
+abbrev pub told_by : Reply → Seen
+told_by reply = record {
+  rose = tells_of_fault reply;
+  rose_before_gate = is_fault reply;
+  rose_at_gate = is_in_doubt reply;
+}
+
+-- the sessions behind the reply to a COMMIT of the one at a place
+abbrev pub sessions_behind : Held → ℕ → Reply → List (Option Open)
+sessions_behind held at reply =
+    if ends_transaction reply then slice_set held.sessions at None else held.sessions
+
+-- a verdict was carried out, with this reply. What the log knows of its tail may change besides
+pub record IsDecided (held : Held) (at : ℕ) (v : Verdict) (reply : Reply) (after : Held) :
+    Type 0 where
+  pub decides : Decides (book_in held) (told_by reply) (at + 1) v reply (book_in after)
+  pub sessions : after.sessions ≡ sessions_behind held at reply
+  pub header : after.transdb.header ≡ held.transdb.header
+
+-- the record of these writes is forced, or why it isn't
 abbrev pub HeldSeals : Held → ℕ → List Write → Reply → Held → Type 0
 HeldSeals held at writes Memory after = after ≡ held
-HeldSeals held at writes (Full need room) after =
-    (need ≡ need_of held at writes) × (room ≡ room_of held.transdb) × (room < need)
-    × (after ≡ held)
-HeldSeals held at writes (Fault f) after =
-    Fits held at writes × (f ≡ 0) × IsAsBefore held after
-HeldSeals held at writes (InDoubt k) after =
-    Fits held at writes × (k ≡ length held.history + 1) × IsDoubted held at writes after
-HeldSeals held at writes (Committed k) after =
-    Fits held at writes × (k ≡ length held.history + 1) × IsSealed held at writes after
-HeldSeals held at writes reply after = ⊥
+HeldSeals held at writes reply after = IsDecided held at (Writes writes) reply after
 
--- COMMIT of an open transaction where no entry is in doubt
-abbrev pub HeldDecides : Held → ℕ → Open → Reply → Held → Type 0
-HeldDecides held at t (Conflict j) after =
-    (first_conflict t.reads held.history ≡ Some j) × (after ≡ with_open held at None)
-HeldDecides held at t (Ended p) after =
-    (first_conflict t.reads held.history ≡ None) × (net (replay held.history) t.write_set ≡ [])
-    × (p ≡ length held.history) × (after ≡ with_open held at None)
-HeldDecides held at t reply after =
-    (first_conflict t.reads held.history ≡ None) × (net (replay held.history) t.write_set ≢ [])
-    × HeldSeals held at (net (replay held.history) t.write_set) reply after
-
--- COMMIT of an open transaction
-abbrev pub HeldDecidesBy : Option Entry → Held → ℕ → Open → Reply → Held → Type 0
-HeldDecidesBy None held at t reply after = HeldDecides held at t reply after
-HeldDecidesBy (Some e) held at t (Halted k) after = (k ≡ e.number) × (after ≡ held)
-HeldDecidesBy (Some e) held at t reply after = ⊥
+-- the verdict on an open transaction
+abbrev pub verdict_in : Held → Open → Verdict
+verdict_in held t = judged (book_in held) t.reads t.write_set
 
 -- COMMIT
 abbrev pub HeldCommits : Held → ℕ → Option Open → Reply → Held → Type 0
 HeldCommits held at t Memory after = after ≡ held
 HeldCommits held at None NoTransaction after = after ≡ held
 HeldCommits held at None reply after = ⊥
-HeldCommits held at (Some t) reply after = HeldDecidesBy held.in_doubt held at t reply after
+HeldCommits held at (Some t) reply after =
+    IsDecided held at (verdict_in held t) reply after
 
 -- one statement of the session at a place
 abbrev pub HeldRuns : Held → ℕ → Statement → Reply → Held → Type 0
@@ -195,37 +201,45 @@ HeldRuns held at (Insert table tuples) reply after =
     HeldExecutes held at (Insert table tuples) (session_at held at) reply after
 HeldRuns held at other reply after = (reply ≡ NotYet) × (after ≡ held)
 
--- what an open transaction is in a machine's eyes
-abbrev pub open_of : List Entry → List Executed → Open
-open_of h t = record { reads = reads_of h t; write_set = write_set_of h t }
+-- what a session is in, for the system
+abbrev pub open_of : List Entry → List Executed → ℕ → Open
+open_of h t format = record { reads = reads_of h t format; write_set = write_set_of h t format }
 
--- the side that takes new records, as a machine sees it
-abbrev pub side_of : Header → Side
-side_of h = record { size = side_size h; first = active_first h }
+abbrev pub open_in : List Entry → ℕ → Session → Option Open
+open_in h format Idle = None
+open_in h format (Working t) = Some (open_of h t format)
 
--- The system stands for the machine: the same history, side and entry in doubt, and for each
--- session the reads and writes of its transaction
+-- The system stands for the machine: the same history, sides, entry in doubt and format, and for
+-- each session the reads and writes of its transaction
 pub record StandsFor (held : Held) (m : Machine) : Type 0 where
   pub history : held.history ≡ m.history
-  pub side : m.side ≡ side_of held.transdb.header
+  pub sides : m.sides ≡ sides_of held.transdb.header
   pub in_doubt : held.in_doubt ≡ m.in_doubt
+  pub format : m.format ≡ held.transdb.header.format
   pub count : length held.sessions ≡ SESSIONS
   pub each : (s : ℕ) → IsSession s
-      → slice_get held.sessions (s - 1) ≡ Some (option_map (open_of m.history) (m.sessions s))
+      → slice_get held.sessions (s - 1) ≡ Some (open_in m.history m.format (m.sessions s))
   pub answered : AnsweredFromSnapshots m
 
 -- the session's number, where there is one, is one of those there are
 abbrev pub IsOfSession : Event → Type 0
-IsOfSession (Session s st) = IsSession s
+IsOfSession (OfSession s st) = IsSession s
 IsOfSession (Control control) = Unit {0}
 
--- From the machine m the event got this reply by a step, and the system stands for the machine
--- after it. A file's count rose in the step only where `rose` tells so
+-- what was seen in a step has its causes: a count rose there only where `rose` tells so
+pub record HasCauses (rose : ℕ → Type 0) (seen : Seen) : Type 0 where
+  pub rose_has : (file : ℕ) → seen.rose file ≡ true → rose file
+  pub before_has : seen.rose_before_gate ≡ true → rose 0
+  pub at_has : seen.rose_at_gate ≡ true → rose 0
+
+-- From the machine m the event got this reply by a step in which the reply tells what was seen, and
+-- the system stands for the machine after it
 pub record Follows
     (rose : ℕ → Type 0) (m : Machine) (event : Event) (reply : Reply) (held : Held) :
     Type 0 where
-  pub risen : ℕ → Bool
-  pub cause : (file : ℕ) → risen file ≡ true → rose file
+  pub seen : Seen
+  pub told : seen ≡ told_by reply
+  pub causes : HasCauses rose seen
   pub after : Machine
-  pub step : Step m event risen reply after
+  pub step : Step m event seen reply after
   pub stands : StandsFor held after

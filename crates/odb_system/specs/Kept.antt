@@ -1,28 +1,31 @@
 -- What a machine asks of the files while a crash may come, and what a step leaves of them.
-use Rattle.std.specs.Prelude.{◌≡◌, ◌⊎◌, ℕ, List, None, Some}
+use Rattle.std.specs.Prelude.{◌≡◌, ◌⊎◌, ℕ, true, List, None, Some}
 use Rattle.odb_device.specs.World.{Moment, World, present}
 use Rattle.odb_device.specs.Images.{EachImage}
+use Rattle.odb_device.specs.Moments.{Runs}
 use Rattle.odb_device.specs.Steps.{Steps, IsQuiet}
 use Rattle.odb_kept.specs.Kept.{KeptBy, KeptByEither}
 use Rattle.odb_model.specs.declared.entry.Entry.{Entry}
 use Rattle.odb_model.specs.declared.event.Event.{Event}
 use Rattle.odb_model.specs.declared.reply.Reply.{Reply}
-use Rattle.odb_model.specs.declared.reply.Reply.TheVariants.{InDoubt}
+use Rattle.odb_model.specs.declared.reply.Reply.TheVariants.{Committed, Fault, InDoubt}
 use Rattle.odb_model.specs.Machine.{Machine, history_or_more}
 use Rattle.odb_codec.specs.Image.{entry_image}
 use Rattle.odb_transdb.specs.declared.header.Header.{Header}
 use Rattle.odb_transdb.specs.Header.{first_held}
 use Rattle.odb_transdb.specs.Opened.{Holds}
 use Rattle.odb_transdb.specs.Standing.{Db}
-use Rattle.odb_transdb.specs.Answers.{RoseAtGate}
-use Rattle.odb_system.specs.Held.{Held, Begins, Follows, side_of}
+use Rattle.odb_transdb.specs.Answers.{HoldsAll}
+use Rattle.odb_transdb.specs.Worlds.{RoseAtGate, WritesFromGate, WritesBehindGate}
+use Rattle.odb_system.specs.Held.{Held, Begins, Follows, sides_of}
 use Rattle.odb_system.specs.Durable.{Risen}
 
--- the image of TRANSDB opens under a header of the machine's side, from number 1 on, to these
--- entries
+-- the image of TRANSDB opens under a header of the machine's format and sides, from number 1 on, to
+-- these entries
 pub record OpensBy (m : Machine) (entries : List Entry) (image : List ℕ) : Type 0 where
   pub header : Header
-  pub side : m.side ≡ side_of header
+  pub format : m.format ≡ header.format
+  pub sides : m.sides ≡ sides_of header
   pub first : first_held header ≡ 1
   pub holds : Holds header entries image
 
@@ -38,29 +41,54 @@ pub record Rests (m : Machine) (moment : Moment) : Type 0 where
   pub exact : m.in_doubt ≡ None → EachImage (OpensBy m m.history) (moment.files 0)
 
 -- The entry in doubt after the step is the one that was being forced, behind the history in the log.
--- The count of TRANSDB rose when the whole record but its gate was on the disk: until then each
--- image held just the history, and from then on no other byte than the gate may have changed
+-- The count of TRANSDB rose behind a moment at which the whole record but its gate was written in
+-- this step and on the disk: until then each image held just the history, and from then on no call
+-- failed or changed anything but the gate's write and the sync behind it, or one failed in its place
+-- and changed nothing
 pub record RoseFromGate (m after : Machine) (old new : World) : Type 0 where
   pub log : Db
-  pub side : m.side ≡ side_of log.header
+  pub format : m.format ≡ log.header.format
+  pub sides : m.sides ≡ sides_of log.header
   pub begins : Begins log m.history
   pub entry : Entry
   pub doubt : after.in_doubt ≡ Some entry
-  pub rose : RoseAtGate log m.history (entry_image entry) old new
+  pub rose : RoseAtGate log (entry_image entry) old new
+  pub alone : Runs 0 (HoldsAll log m.history) old rose.mid
 
 -- so where the reply is INDOUBT
 abbrev pub IsDoubtCaused : Machine → Reply → Machine → World → World → Type 0
 IsDoubtCaused m (InDoubt k) after old new = RoseFromGate m after old new
 IsDoubtCaused m reply after old new = Unit {0}
 
--- From the machine m the event got this reply by a step, in which a file's count rose only where
--- the step tells so, and the system stands for the machine after it. At each moment of it, whatever
--- a crash leaves is all kept by m or all by the machine after it; nothing is said or taken; and
--- when it ends the files rest
+-- the step wrote file 0 only within these bounds, in a log that had just the history
+pub record WritesWithinLog
+    (Bounds : Db → World → World → Type 0) (m : Machine) (old new : World) : Type 0 where
+  pub log : Db
+  pub format : m.format ≡ log.header.format
+  pub sides : m.sides ≡ sides_of log.header
+  pub begins : Begins log m.history
+  pub only : Bounds log old new
+
+-- What a step may write, by its reply: with COMMITTED and INDOUBT the next record, from its gate to
+-- the end of the active side; with FAULT what is behind that gate; with any other reply nothing, and
+-- the world is as it was
+abbrev pub StepWrites : Machine → Reply → World → World → Type 0
+StepWrites m (Committed k) old new = WritesWithinLog WritesFromGate m old new
+StepWrites m (Fault f) old new = WritesWithinLog WritesBehindGate m old new
+StepWrites m (InDoubt k) old new = WritesWithinLog WritesFromGate m old new
+StepWrites m reply old new = new ≡ old
+
+-- From the machine m the event got this reply by a step, which tells of a file's fault only where
+-- the file's count rose in it, and of one from a record's gate on only as `RoseFromGate` says; and
+-- the system stands for the machine after it. It writes only what its reply has it write. At each
+-- moment of it, whatever a crash leaves is all kept by m or all by the machine after it; nothing is
+-- said or taken; and when it ends the files rest
 pub record Stepped
     (m : Machine) (event : Event) (reply : Reply) (held : Held) (old new : World) : Type 0 where
   pub follows : Follows (Risen old new) m event reply held
   pub doubt : IsDoubtCaused m reply follows.after old new
+  pub from_gate : follows.seen.rose_at_gate ≡ true → RoseFromGate m follows.after old new
+  pub writes : StepWrites m reply old new
   pub keeps : Steps (KeptByEither (IsKept m) (IsKept follows.after)) old new
   pub quiet : IsQuiet old new
   pub rests : Rests follows.after (present new)

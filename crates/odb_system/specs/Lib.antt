@@ -1,4 +1,3 @@
 pub mod Held
 pub mod Durable
-pub mod Room
 pub mod Kept

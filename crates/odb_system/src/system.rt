@@ -51,17 +51,17 @@ impl Model for System {
 impl System {
     ghost use Rattle.odb_model.specs.declared.event.Event.TheVariants.{Session};
     ghost use Rattle.odb_model.specs.Machine.{Machine, first_machine};
-    ghost use Rattle.odb_system.specs.Held.{session_at, side_of, Begins, HeldStarts, HeldExecutes, HeldCommits, HeldSeals, HeldRuns, CanSeal, StandsFor, IsOfSession, Follows};
-    ghost use Rattle.odb_system.specs.Durable.{IsDurable, HoldsThroughout, Risen, CausedBy};
+    ghost use Rattle.odb_system.specs.Held.{session_at, sides_of, Begins, HeldStarts, HeldExecutes, HeldCommits, HeldSeals, HeldRuns, CanSeal, StandsFor, IsOfSession, Follows};
+    ghost use Rattle.odb_system.specs.Durable.{IsDurable, HoldsThroughout, Risen, CausedBy, HeldWrites};
     ghost use Rattle.odb_system.specs.Kept.{Rests, Stepped};
-    ghost use Rattle.odb_system.specs.Room.{AgreesOnRoom};
 
     /// The machine that begins with these entries, all that the log holds; all sessions are idle.
     /// It makes no call of a store.
     pub fn start(alloc: Global, transdb: Transdb, entries: Entries) -> Result<System, SystemError>
         requires { Begins transdb entries }
         ensures stands { IfOk result
-            (λ system. StandsFor system (first_machine (side_of transdb.header) entries)) }
+            (λ system. StandsFor system
+            (first_machine transdb.header.format (sides_of transdb.header) entries)) }
         ensures history { IfOk result
             (λ system. (system.history ≡ entries) × (system.transdb ≡ transdb)) }
     {
@@ -110,6 +110,7 @@ impl System {
             → Follows (Risen (H.world host.old) (H.world host.new)) m
             (Session session statement.now) result self.new }
         ensures cause { CausedBy self.old result self.new (H.world host.old) (H.world host.new) }
+        ensures writes { HeldWrites self.old result (H.world host.old) (H.world host.new) }
         ensures run { Runs 0 (HoldsThroughout self.old self.new)
             (H.world host.old) (H.world host.new) }
         ensures durable { IsDurable self.new (file_of 0 (H.world host.new)) }
@@ -126,8 +127,8 @@ impl System {
         requires place { at < SESSIONS }
         requires durable { IsDurable self.old (file_of 0 (H.world host.old)) }
         ensures step { HeldRuns self.old at (statement_of form) result self.new }
-        ensures room { AgreesOnRoom result self.old }
         ensures cause { CausedBy self.old result self.new (H.world host.old) (H.world host.new) }
+        ensures writes { HeldWrites self.old result (H.world host.old) (H.world host.new) }
         ensures run { Runs 0 (HoldsThroughout self.old self.new)
             (H.world host.old) (H.world host.new) }
         ensures durable { IsDurable self.new (file_of 0 (H.world host.new)) }
@@ -157,11 +158,12 @@ impl System {
             result self.new }
     {
         let number = self.history.len() as u64;
+        let format = self.transdb.format();
         let Some(transaction) = &mut self.sessions[at] else {
             return Reply::NoTransaction;
         };
         let history = self.history.as_slice();
-        let Ok(outcome) = execute_form(alloc, form, history, transaction.write_set()) else {
+        let Ok(outcome) = execute_form(alloc, form, history, transaction.write_set(), format) else {
             return Reply::Memory;
         };
         let Outcome {
@@ -179,8 +181,8 @@ impl System {
         requires place { at < SESSIONS }
         requires durable { IsDurable self.old (file_of 0 (H.world host.old)) }
         ensures step { HeldCommits self.old at (session_at self.old at) result self.new }
-        ensures room { AgreesOnRoom result self.old }
         ensures cause { CausedBy self.old result self.new (H.world host.old) (H.world host.new) }
+        ensures writes { HeldWrites self.old result (H.world host.old) (H.world host.new) }
         ensures run { Runs 0 (HoldsThroughout self.old self.new)
             (H.world host.old) (H.world host.new) }
         ensures durable { IsDurable self.new (file_of 0 (H.world host.new)) }
@@ -218,8 +220,8 @@ impl System {
         requires writes { CanSeal self.old writes }
         requires durable { IsDurable self.old (file_of 0 (H.world host.old)) }
         ensures step { HeldSeals self.old at writes result self.new }
-        ensures room { AgreesOnRoom result self.old }
         ensures cause { CausedBy self.old result self.new (H.world host.old) (H.world host.new) }
+        ensures writes { HeldWrites self.old result (H.world host.old) (H.world host.new) }
         ensures run { Runs 0 (HoldsThroughout self.old self.new)
             (H.world host.old) (H.world host.new) }
         ensures durable { IsDurable self.new (file_of 0 (H.world host.new)) }

@@ -1,11 +1,12 @@
 -- What `create` makes of the file that it finds.
-use Rattle.std.specs.Prelude.{◌≡◌, ◌≢◌, []}
+use Rattle.std.specs.Prelude.{◌≡◌, ◌≢◌, [], IfSome}
 use Rattle.odb_device.specs.World.{World, file_of}
 use Rattle.odb_device.specs.Images.{EachImage}
 use Rattle.odb_device.specs.Calls.{Keeps}
+use Rattle.odb_device.specs.Moments.{WritesWithin}
 use Rattle.odb_model.specs.declared.status.Status.{Status}
 use Rattle.odb_model.specs.declared.status.Status.TheVariants.{Done, Usage, ReadFault, WriteFault, FileFault, NoDatabase, Exists, Damaged, NotHeld, InputTooLong, NoMemory}
-use Rattle.odb_pair.specs.Places.{Opened, no_open_place}
+use Rattle.odb_pair.specs.Places.{Opened, no_open_place, opened}
 use Rattle.odb_transdb.specs.Header.{new_header}
 use Rattle.odb_transdb.specs.Opened.{Holds}
 
@@ -37,3 +38,9 @@ IsCreateStatus Done = Unit {0}
 IsCreateStatus Exists = Unit {0}
 IsCreateStatus (FileFault file) = Unit {0}
 IsCreateStatus other = ⊥
+
+-- a database that is there is left, also where a call fails: where the pair has an open place,
+-- nothing is written, and at every moment each image of the file is one from before
+abbrev pub LeavesDatabase : World → World → Type 0
+LeavesDatabase old new =
+    IfSome (file_of 0 old) (λ f. opened f.bytes ≢ no_open_place → WritesWithin 0 0 0 old new)

@@ -8,7 +8,7 @@ ghost use Rattle.odb_pair.specs.Places.{opened as pair_opened};
 ghost use Rattle.odb_transdb.specs.Opened.{opened};
 ghost use Rattle.odb_play.specs.Opening.{PlayOutcome, IsOpeningOf};
 ghost use Rattle.odb_tool.specs.Words.{IsPlay, IsCreate, IsCommand};
-ghost use Rattle.odb_tool.specs.Created.{IsCreationOf, CreateOutcome, IsCreateStatus};
+ghost use Rattle.odb_tool.specs.Created.{IsCreationOf, CreateOutcome, IsCreateStatus, LeavesDatabase};
 
 use crate::create::create;
 use odb_device::Host;
@@ -69,6 +69,11 @@ use std::alloc::Global;
 /// COMMITTED k said by then and, from the first byte said on, the number of entries found, and
 /// nothing stands in a wrong place.
 ///
+/// Once the opening is over, which says nothing, the machines of the run keep the files so whatever
+/// they were at entry. From then on TRANSDB changes only in a step that is answered COMMITTED,
+/// FAULT or INDOUBT, before that answer is said: never in another step, between two, or behind the
+/// last one.
+///
 /// Want of memory alone is free: the reply MEMORY may come in the place of any other to a statement
 /// and then changes nothing, and the status `NoMemory` may come in the place of any other. No other
 /// status and no other reply stands for it.
@@ -86,7 +91,8 @@ use std::alloc::Global;
 /// exactly where its first entry isn't number 1. Then nothing is taken or said, and TRANSDB opens
 /// as before. With `create` (`creation`, `created`): `Exists` exactly where the pair has an open
 /// place already, and then the file is as before; after `Done` every image of TRANSDB is one
-/// without entries.
+/// without entries. Where the pair has an open place nothing is written, whatever call fails: at
+/// every moment a crash leaves what it might have left before (`leaves`).
 ///
 /// # Where each word is defined
 ///
@@ -120,6 +126,8 @@ pub fn run<H: Host>(alloc: Global, words: &[String], host: &mut H) -> Status
     ensures statuses { IsCreate (map string_bytes words.now) → IsCreateStatus result }
     ensures creation { IsCreate (map string_bytes words.now)
         → IfSome (file_of 0 (H.world host.old)) (λ f. IsCreationOf result (pair_opened f.bytes)) }
+    ensures leaves { IsCreate (map string_bytes words.now)
+        → LeavesDatabase (H.world host.old) (H.world host.new) }
     ensures silent { IsCreate (map string_bytes words.now)
         → Runs 0 (λ _. Unit {0}) (H.world host.old) (H.world host.new) }
 

@@ -4,7 +4,7 @@ ghost use Rattle.odb_device.specs.World.{file_of};
 ghost use Rattle.odb_device.specs.Calls.{FileCountRose};
 ghost use Rattle.odb_device.specs.Moments.{Runs};
 ghost use Rattle.odb_pair.specs.Places.{opened as pair_opened};
-ghost use Rattle.odb_tool.specs.Created.{IsCreationOf, CreateOutcome, IsCreateStatus};
+ghost use Rattle.odb_tool.specs.Created.{IsCreationOf, CreateOutcome, LeavesDatabase, IsCreateStatus};
 
 use odb_device::Store;
 use odb_model::Status;
@@ -19,12 +19,13 @@ const FORMAT: u16 = 1;
 
 /// Makes a database of file 0 alone, where its pair has no open place yet.
 ///
-/// `Exists` comes before a byte is written. It writes both sides as zeros, 32 MiB in pieces of 64
-/// KiB, and the pair last.
+/// A pair that has one is left as it is: `Exists`, and a fault of reading it, come before a byte is
+/// written. Else it writes both sides as zeros, 32 MiB in pieces of 64 KiB, and the pair last.
 pub(crate) fn create<S: Store>(store: &mut S) -> Status
     ensures created { CreateOutcome result (S.world store.old) (S.world store.new) }
     ensures creation { IfSome (file_of 0 (S.world store.old))
         (λ f. IsCreationOf result (pair_opened f.bytes)) }
+    ensures leaves { LeavesDatabase (S.world store.old) (S.world store.new) }
     ensures statuses { IsCreateStatus result }
     ensures silent { Runs 0 (λ _. Unit {0}) (S.world store.old) (S.world store.new) }
     ensures file_fault { (file : ℕ) → result ≡ Status.FileFault file

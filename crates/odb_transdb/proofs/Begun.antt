@@ -63,6 +63,10 @@ module _ (pair : PairState) (h : Header) (of : IsOfPair pair h) where
         clean = λ e. ap (first_other h (other_of h)) same ∙ checked.clean e;
       }
 
+  pub has_first : (o : Option File) → ReadsImage o → AreBased pair h o o → IfSome o (λ f. HasHeader h f.bytes)
+  has_first None reads based = tt
+  has_first (Some f) reads based = (based f.bytes reads).has
+
   pub whole_side : (side : ℕ) → IsInside h side (side_start h side) (side_end h side - side_start h side)
   whole_side side = record { low = omega arith; high = omega arith }
 

@@ -3,12 +3,15 @@ use Rattle.std.proofs.Common.{◌≡◌, ◌⊎◌, inl, inr, ℕ, ◌+◌, ◌-
 use Rattle.std.specs.Prelude.{is_some, IfSome, OnOk, OnErr, Result, Err}
 use Rattle.odb_device.specs.World.{File, World, file_of}
 use Rattle.odb_device.specs.Images.{EachImage, ReadsImage, TornFrom}
-use Rattle.odb_device.specs.Moments.{Runs}
+use Rattle.odb_device.specs.Moments.{Runs, WritesWithin}
+use Rattle.odb_device.specs.Zeros.{AreZero}
 use Rattle.odb_device.proofs.Torn.{each_weakens}
-use Rattle.odb_device.proofs.Time.{weakens, joins, run_end}
+use Rattle.odb_device.proofs.Time.{begins, weakens, joins, run_end}
 use Rattle.odb_reclog.specs.Records.{log_of, payload_at}
-use Rattle.odb_reclog.specs.Standing.{Log, Stands as LogStands, SameList, IsClear, list_of, body_of}
+use Rattle.odb_reclog.specs.Standing.{Log, StandsFor as LogStandsFor, Stands as LogStands, SameRegion, SameList, IsClear, list_of, tail_of, body_of}
+use Rattle.odb_reclog.specs.Regions.{WritesBehind, IsAdded}
 use Rattle.odb_reclog.specs.Moments.{KeepsLists, KeepsOrAdds}
+use Rattle.odb_reclog.proofs.Pieces.{from_then}
 use Rattle.odb_codec.specs.Reading.{read_entry}
 use Rattle.odb_model.specs.declared.entry.Entry.{Entry}
 use Rattle.odb_transdb.specs.declared.header.Header.{Header}
@@ -17,9 +20,10 @@ use Rattle.odb_transdb.specs.Opened.{side_list, Holds, entries_in}
 use Rattle.odb_transdb.specs.Standing.{Db, IsDb, Stands, IsSettledIn}
 use Rattle.odb_transdb.specs.Answers.{HoldsAll, HoldsAllOrMore}
 use Rattle.odb_transdb.specs.Steps.{IsWritten}
+use Rattle.odb_transdb.specs.Worlds.{KeepsOrAddsEntry, WritesBehindGate, RewritesTail}
 use Rattle.odb_transdb.proofs.Opened.{Has, has_holds}
 use Rattle.odb_transdb.proofs.Sides.{IsInside, has_more}
-use Rattle.odb_transdb.proofs.Standing.{log_list, stands_has, stands_pair, stands_log, stands_live, has_all, entries_read, entries_same, stands_made, pair_stays, adds_torn, with_active, is_db_with, side_with, region_of, SameRegion, low_active, live_stays, keeps_has, adds_has, keeps_stands}
+use Rattle.odb_transdb.proofs.Standing.{log_list, stands_has, stands_pair, stands_log, stands_live, has_all, entries_read, entries_same, stands_made, pair_stays, adds_torn, with_active, is_db_with, side_with, region_of, low_active, live_stays, keeps_torn, keeps_has, adds_has, keeps_stands}
 
 -- where there is room for a record it lies inside the active side
 abbrev pub HasRoom : Db → Type 0
@@ -92,11 +96,29 @@ holds_then x y w mid now settled first second =
     joins 0 (HoldsAll x (entries_in (file_of 0 w))) w mid now first
     (subst (λ (l : List Entry). Runs 0 (EachImage (Holds x.header l)) mid now) settled.entries (subst (λ (h : Header). Runs 0 (EachImage (Holds h (entries_in (file_of 0 mid)))) mid now) settled.header second))
 
--- what a call of the active log leaves that writes behind its gate
-pub record LeavesBehind (log new : Log) (w now : World) : Type 0 where
-  pub run : Runs log.file (KeepsBehind log (file_of log.file w)) w now
-  pub stands : LogStands new (file_of log.file now)
-  pub same : SameList log new
+-- where nothing is written the entries stay
+pub still_holds : (db : Db) (e : Entry) (w : World) → Stands db (file_of 0 w) → KeepsOrAddsEntry db e w w
+still_holds db e w stands =
+    let o = file_of 0 w in
+    let es = entries_in o in
+    begins 0 (HoldsAllOrMore db es e) w (either db.header es (es ++ e ∷ []) o (has_all db.header es o (stands_has db o stands)))
+  where
+    either : (h : Header) (es more : List Entry) (o : Option File) → EachImage (Holds h es) o → EachImage (λ image. Holds h es image ⊎ Holds h more image) o
+    either h es more o holds = each_weakens (Holds h es) (λ image. Holds h es image ⊎ Holds h more image) o (λ image one. inl one) holds
+
+-- the gate isn't written in one part, nor in the next
+pub gate_then : (db : Db) (w mid now : World) → WritesBehindGate db w mid → WritesBehindGate db mid now → WritesBehindGate db w now
+gate_then db w mid now first second =
+    let at = db.active.place + 1 in
+    let n = db.active.end - at in
+    let P = TornFrom at n (file_of 0 w) in
+    joins 0 P w mid now first
+    (weakens 0 (TornFrom at n (file_of 0 mid)) P mid now (λ o torn. from_then at n (file_of 0 w) (file_of 0 mid) o (run_end 0 P w mid first) torn) second)
+
+gate_same : (db : Db) (log : Log) (w now : World) → SameList db.active log → WritesBehindGate (with_active db log) w now → WritesBehindGate db w now
+gate_same db log w now same run =
+    subst (λ (k : ℕ). WritesWithin 0 (k + 1) (db.active.end - (k + 1)) w now) same.place
+    (subst (λ (k : ℕ). WritesWithin 0 (log.place + 1) (k - (log.place + 1)) w now) same.end run)
 
 -- a state from which such calls are made
 pub record IsReady (db : Db) (w : World) : Type 0 where
@@ -106,9 +128,25 @@ pub record IsReady (db : Db) (w : World) : Type 0 where
   pub stands : Stands db (file_of 0 w)
   pub reads : ReadsImage (file_of 0 w)
 
-module _ (db : Db) (log : Log) (w now : World) (ready : IsReady db w) (left : LeavesBehind db.active log w now) where
+module _ (db : Db) (log : Log) (w now : World) (ready : IsReady db w) (left : WritesBehind db.active log w now) where
   its_run : Runs 0 (KeepsBehind db.active (file_of 0 w)) w now
   its_run = subst (λ (k : ℕ). Runs k (KeepsBehind db.active (file_of k w)) w now) ready.is.active.file left.run
+
+  pub step_gate : WritesBehindGate db w now
+  step_gate =
+      let at = db.active.place + 1 in
+      let n = db.active.end - at in
+      weakens 0 (KeepsBehind db.active (file_of 0 w)) (TornFrom at n (file_of 0 w)) w now
+      (λ o keeps. keeps_torn db.active.start db.active.end db.active.first at n (file_of 0 w) o keeps) its_run
+
+  -- a clear tail is zeros on the disk
+  step_cleared : IsClear log → EachImage (AreZero (db.active.place + 1) db.active.end) (file_of 0 now)
+  step_cleared clear =
+      let o = file_of db.active.file now in
+      let from : log.clear_from ≤ db.active.place + 1 = omega (arith, clear, left.same.place) in
+      subst (λ (k : ℕ). EachImage (AreZero (db.active.place + 1) db.active.end) (file_of k now)) ready.is.active.file
+      (each_weakens (LogStandsFor log (list_of log o) (tail_of log o)) (AreZero (db.active.place + 1) db.active.end) o
+      (λ image one. λ i low high. one.clear i (omega (arith, from, low)) (omega (arith, left.same.end, high))) left.stands)
 
   pub step_run : Runs 0 (HoldsAll db (entries_in (file_of 0 w))) w now
   step_run = behind_run db ready.is ready.room w now ready.stands ready.reads its_run
@@ -128,9 +166,23 @@ module _ (db : Db) (log : Log) (w now : World) (ready : IsReady db w) (left : Le
     }
 
 -- two such calls
-module _ (db : Db) (first second : Log) (w mid now : World) (ready : IsReady db w) (one : LeavesBehind db.active first w mid) (reads : ReadsImage (file_of 0 mid)) (two : LeavesBehind first second mid now) where
+module _ (db : Db) (first second : Log) (w mid now : World) (ready : IsReady db w) (one : WritesBehind db.active first w mid) (reads : ReadsImage (file_of 0 mid)) (two : WritesBehind first second mid now) where
   middle : IsReady (with_active db first) mid
   middle = step_ready db first w mid ready one reads
+
+  second_gate : WritesBehindGate db mid now
+  second_gate = gate_same db first mid now one.same (step_gate (with_active db first) second mid now middle two)
+
+  pub steps_gate : WritesBehindGate db w now
+  steps_gate = gate_then db w mid now (step_gate db first w mid ready one) second_gate
+
+  pub steps_tail : IsClear first → RewritesTail db w now
+  steps_tail clear = record {
+    mid = mid;
+    clears = step_gate db first w mid ready one;
+    cleared = step_cleared db first w mid ready one clear;
+    writes = second_gate;
+  }
 
   pub steps_run : Runs 0 (HoldsAll db (entries_in (file_of 0 w))) w now
   steps_run = holds_then db (with_active db first) w mid now (step_settled db first w mid ready one reads) (step_run db first w mid ready one) (step_run (with_active db first) second mid now middle two)
@@ -225,10 +277,10 @@ opening_only db w now is run =
     (weakens file (KeepsOrAdds db.active.start db.active.end db.active.first payload db.active.place 1 (file_of file w)) (TornFrom db.active.place 1 (file_of file w)) w now
     (λ p adds. adds_torn db.active.start db.active.end db.active.first payload db.active.place 1 (file_of file w) p adds) run)
 
--- what holds after Ok by three facts that hold then
-pub after_ok : {T E : Type 0} (A B C D : Type 0) (r : Result T E) → (A → B → C → D) → OnOk r A → OnOk r B → OnOk r C → OnOk r D
-after_ok A B C D (Ok x) gives a b c = gives a b c
-after_ok A B C D (Err e) gives a b c = tt
+-- what holds after Ok by a fact that holds then
+pub ok_then : {T E : Type 0} (A B : Type 0) (r : Result T E) → (A → B) → OnOk r A → OnOk r B
+ok_then A B (Ok x) gives a = gives a
+ok_then A B (Err e) gives a = tt
 
 -- what the log's call that opens a gate leaves
 module _ (db : Db) (log : Log) (w now : World) (ready : IsReady db w) (run : Runs db.active.file (KeepsOrAdds db.active.start db.active.end db.active.first (body_of db.active (file_of db.active.file w)) db.active.place 1 (file_of db.active.file w)) w now)
@@ -252,11 +304,11 @@ module _ (db : Db) (log : Log) (w now : World) (ready : IsReady db w) (run : Run
         gate_stands db ready.is ready.room w now ready.stands ready.reads at_zero e written log reads (subst (λ (k : ℕ). LogStands log (file_of k now)) ready.is.active.file active) same (subst HasList ready.is.active.file list) next
 
 -- the log goes on no earlier than before
-pub gate_moves : {T E : Type 0} (old new : Log) (r : Result T E) → old.place ≤ old.clear_from → OnOk r ((new.next ≡ old.next + 1) × IsClear new × (new.has_body ≡ false) × (new.in_doubt ≡ false)) → OnOk r (new.place ≡ old.clear_from)
-    → OnErr r (new ≡ record old { in_doubt = true }) → (old.place ≤ new.place) × (old.next ≤ new.next)
-gate_moves old new (Ok x) behind next place same = (omega (arith, place), omega (arith, next.0))
-gate_moves old new (Err e) behind next place same = (omega (arith, ap (λ (l : Log). l.place) same), omega (arith, ap (λ (l : Log). l.next) same))
+pub gate_moves : {T E : Type 0} (old new : Log) (w now : World) (r : Result T E) → old.place ≤ old.clear_from → OnOk r (IsAdded old new w now) → OnErr r (new ≡ record old { in_doubt = true })
+    → (old.place ≤ new.place) × (old.next ≤ new.next)
+gate_moves old new w now (Ok x) behind added same = (omega (arith, added.place), omega (arith, added.next))
+gate_moves old new w now (Err e) behind added same = (omega (arith, ap (λ (l : Log). l.place) same), omega (arith, ap (λ (l : Log). l.next) same))
 
-pub gate_db : {T E : Type 0} (db : Db) (new : Log) (r : Result T E) → IsDb db → SameRegion db.active new → db.active.place ≤ db.active.clear_from → OnOk r ((new.next ≡ db.active.next + 1) × IsClear new × (new.has_body ≡ false) × (new.in_doubt ≡ false))
-    → OnOk r (new.place ≡ db.active.clear_from) → OnErr r (new ≡ record db.active { in_doubt = true }) → IsDb (with_active db new)
-gate_db db new r is same behind next place err = let moves = gate_moves db.active new r behind next place err in is_db_with db new same moves.0 moves.1 is
+pub gate_db : {T E : Type 0} (db : Db) (new : Log) (w now : World) (r : Result T E) → IsDb db → SameRegion db.active new → db.active.place ≤ db.active.clear_from → OnOk r (IsAdded db.active new w now)
+    → OnErr r (new ≡ record db.active { in_doubt = true }) → IsDb (with_active db new)
+gate_db db new w now r is same behind added err = let moves = gate_moves db.active new w now r behind added err in is_db_with db new same moves.0 moves.1 is

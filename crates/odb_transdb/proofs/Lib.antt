@@ -15,3 +15,4 @@ pub mod Opens
 pub mod Begun
 pub mod Finds
 pub mod Pairs
+pub mod Gates

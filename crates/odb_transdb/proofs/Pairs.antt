@@ -3,7 +3,7 @@ use Rattle.std.proofs.Common.{◌≡◌, inl, inr, ℕ, List, length, Option, So
 use Rattle.std.specs.Prelude.{is_some, option_map, IfSome}
 use Rattle.std.proofs.lemmas.List.{same_lists, get_or_default}
 use Rattle.odb_device.specs.World.{File, World, file_of}
-use Rattle.odb_device.specs.Images.{IsImage, ReadsImage, Torn, TornFrom, kept}
+use Rattle.odb_device.specs.Images.{IsImage, ReadsImage, IsKept, Torn, TornFrom, kept}
 use Rattle.odb_device.specs.Moments.{Runs}
 use Rattle.odb_device.proofs.Bytes.{image_kept}
 use Rattle.odb_device.proofs.Time.{joins, weakens}
@@ -55,6 +55,15 @@ told_kept (Some f) now is = ap is_some is
 
 pub open_gates : (o mid now : Option File) → mid ≡ option_map kept o → ClosesGates mid now → ClosesGates o now
 open_gates o mid now is gates = gates_then o mid now (told_kept o mid is) (gates_kept o mid is) gates
+
+-- all is on the disk, and the bytes are as they were
+pub is_kept : (o now : Option File) → now ≡ option_map kept o → IsKept now
+is_kept None now is = subst IsKept (sym is) tt
+is_kept (Some f) now is = subst IsKept (sym is) (refl, refl)
+
+pub found_kept : (value : List ℕ) (o now : Option File) → now ≡ option_map kept o → IfSome o (λ f. pair_opened f.bytes ≡ holding_value value) → IfSome now (λ f. pair_opened f.bytes ≡ holding_value value)
+found_kept value None now is found = subst (λ (x : Option File). IfSome x (λ f. pair_opened f.bytes ≡ holding_value value)) (sym is) tt
+found_kept value (Some f) now is found = subst (λ (x : Option File). IfSome x (λ f. pair_opened f.bytes ≡ holding_value value)) (sym is) found
 
 by_pair : (bytes : List ℕ) (p : PairOpened) → pair_opened bytes ≡ p → opened bytes ≡ with_pair p bytes
 unfolding opened

@@ -8,7 +8,7 @@ use Rattle.odb_device.proofs.Torn.{torn_each, each_weakens}
 use Rattle.odb_pair.specs.Standing.{PairState, StandsFor as PairStandsFor}
 use Rattle.odb_pair.specs.Laws.{stands_beside}
 use Rattle.odb_reclog.specs.Records.{log_of}
-use Rattle.odb_reclog.specs.Standing.{Log, StandsFor as LogStandsFor, Stands as LogStands, SameList, list_of, tail_of}
+use Rattle.odb_reclog.specs.Standing.{Log, StandsFor as LogStandsFor, Stands as LogStands, SameRegion, SameList, list_of, tail_of}
 use Rattle.odb_reclog.specs.Moments.{KeepsLists, KeepsOrAdds}
 use Rattle.odb_reclog.proofs.Files.{stands_each}
 use Rattle.odb_reclog.proofs.Laws.{stands_beside as log_beside}
@@ -113,13 +113,6 @@ live_with h Dirty None old new same is = is
 live_with h Clean (Some log) old new same is = is
 live_with h Clean None old new same is = is
 
--- the log is of the same region
-pub record SameRegion (old new : Log) : Type 0 where
-  pub file : new.file ≡ old.file
-  pub start : new.start ≡ old.start
-  pub end : new.end ≡ old.end
-  pub first : new.first ≡ old.first
-
 pub side_with : (h : Header) (side : ℕ) (old new : Log) → SameRegion old new → IsOfSide h side old → IsOfSide h side new
 side_with h side old new same is = record { file = same.file ∙ is.file; start = same.start ∙ is.start; end = same.end ∙ is.end; first = same.first ∙ is.first }
 
@@ -136,7 +129,7 @@ is_db_with db log same further later is = record {
 }
 
 -- a lawful first number is 1 or more
-some_first : (h : Header) (side : ℕ) → IsLawful h → 1 ≤ first_on h side
+pub some_first : (h : Header) (side : ℕ) → IsLawful h → 1 ≤ first_on h side
 some_first h zero is = is.some0
 some_first h (suc side) is = is.some1
 

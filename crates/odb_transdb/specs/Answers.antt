@@ -1,14 +1,19 @@
 -- What the calls of TRANSDB answer, and what holds at each of their moments.
 use Rattle.std.specs.Prelude.{◌≡◌, ◌⊎◌, ℕ, ◌+◌, ◌<◌, ◌≤◌, List, [], ◌∷◌, ◌++◌, length, slice_index, Option, Some, None, Result, Ok, Err}
-use Rattle.odb_device.specs.World.{File, World, file_of}
-use Rattle.odb_device.specs.Images.{IsImage, EachImage, TornFrom}
+use Rattle.odb_device.specs.World.{File, World}
 use Rattle.odb_device.specs.Calls.{FileCountRose}
-use Rattle.odb_device.specs.Moments.{Runs}
+use Rattle.odb_device.specs.Images.{IsImage, EachImage}
+use Rattle.odb_pair.specs.Places.{opened as pair_opened, holding as holding_value}
+use Rattle.odb_reclog.specs.Ends.{IsOpenEnd}
 use Rattle.odb_reclog.specs.Records.{OPEN, HEAD, size_at, number_at, payload_at}
 use Rattle.odb_codec.specs.Image.{HasImage, entry_image}
 use Rattle.odb_model.specs.declared.entry.Entry.{Entry}
+use Rattle.odb_model.specs.declared.side.OtherSide.TheVariants.{Live}
+use Rattle.odb_transdb.specs.declared.header.Header.{Header}
 use Rattle.odb_transdb.specs.declared.error.TransdbError.{TransdbError}
+use Rattle.odb_transdb.specs.declared.opening.OpenedTransdb.{OpenedTransdb}
 use Rattle.odb_transdb.specs.declared.error.TransdbError.TheVariants.{NoDatabase, Damaged, Full, FaultBefore, InDoubt, Fault, NoMemory}
+use Rattle.odb_transdb.specs.Header.{header_of, side_start, side_end, file_size, first_on, other_of}
 use Rattle.odb_transdb.specs.Opened.{Opened, no_database, damaged, holding, Holds, opened}
 use Rattle.odb_transdb.specs.Standing.{Db, room_of}
 
@@ -30,8 +35,8 @@ abbrev pub IsOpenAnswer : Result Db TransdbError → Opened → Type 0
 IsOpenAnswer = IsAnswerBy (λ db what. (entries : List Entry) × (what ≡ holding db.header entries))
 
 -- and so does `open_with_entries`, which gives all of the entries too
-abbrev pub IsFullAnswer : Result (Db × List Entry) TransdbError → Opened → Type 0
-IsFullAnswer = IsAnswerBy (λ found what. what ≡ holding found.0.header found.1)
+abbrev pub IsFullAnswer : Result OpenedTransdb TransdbError → Opened → Type 0
+IsFullAnswer = IsAnswerBy (λ found what. what ≡ holding found.transdb.header found.entries)
 
 -- the refusals of `open`, of whatever store
 abbrev pub IsOpenRefusal : {T : Type 0} → Result T TransdbError → Type 0
@@ -55,13 +60,18 @@ IsReadRefusal (Err (Full need room)) = ⊥
 IsReadRefusal (Err FaultBefore) = ⊥
 IsReadRefusal (Err (InDoubt number)) = ⊥
 
+-- a reading refuses nothing else, and answers a fault only where the file's count rose
+abbrev pub FailsAsRead : {T : Type 0} → ℕ → Result T TransdbError → World → World → Type 0
+FailsAsRead file result old new =
+    IsReadRefusal result × (result ≡ Err Fault → FileCountRose file old new)
+
 -- each image opens as one from before did
 abbrev pub KeepsOpened : Option File → Option File → Type 0
 KeepsOpened None new = new ≡ None
 KeepsOpened (Some old) new =
     EachImage (λ image. (before : List ℕ) × IsImage old before × (opened image ≡ opened before)) new
 
--- each byte reads as before, but that a gate that was open may be closed
+-- each byte reads as before, or was the byte of an open gate and is 0 now
 abbrev pub ClosesGates : Option File → Option File → Type 0
 ClosesGates None new = Unit {0}
 ClosesGates (Some old) None = ⊥
@@ -69,6 +79,19 @@ ClosesGates (Some old) (Some new) =
     (length new.bytes ≡ length old.bytes)
     × ((i : ℕ) → (slice_index new.bytes i ≡ slice_index old.bytes i)
     ⊎ ((slice_index old.bytes i ≡ OPEN) × (slice_index new.bytes i ≡ 0)))
+
+-- The gate at this place is open, where the list of a side that holds entries ends: the bytes keep
+-- a lawful header in their pair, and are as long as its sides
+pub record IsListEnd (bytes : List ℕ) (place : ℕ) : Type 0 where
+  pub value : List ℕ
+  pub header : Header
+  pub side : ℕ
+  pub pair : pair_opened bytes ≡ holding_value value
+  pub lawful : header_of value ≡ Some header
+  pub long : file_size header ≤ length bytes
+  pub held : (side ≡ header.active) ⊎ ((header.other ≡ Live) × (side ≡ other_of header))
+  pub ends : IsOpenEnd (side_start header side) (side_end header side) (first_on header side)
+      bytes place
 
 -- the bytes are the image of an entry
 abbrev pub IsEntryImage : List ℕ → Type 0
@@ -101,13 +124,3 @@ pub record HasRecord (db : Db) (payload : List ℕ) (bytes : List ℕ) : Type 0 
   pub size : size_at db.active.place bytes ≡ length payload
   pub number : number_at db.active.place bytes ≡ db.active.next
   pub payload_is : payload_at db.active.place bytes ≡ payload
-
--- The file's count rose when the whole record but its gate was on the disk; until then each image
--- held just the entries before, and from then on no other byte than the gate may have changed
-pub record RoseAtGate (db : Db) (entries : List Entry) (payload : List ℕ) (old new : World)
-    : Type 0 where
-  pub mid : World
-  pub before : Runs 0 (HoldsAll db entries) old mid
-  pub body : EachImage (HasRecord db payload) (file_of 0 mid)
-  pub only : Runs 0 (TornFrom db.active.place 1 (file_of 0 mid)) mid new
-  pub rose : FileCountRose 0 mid new

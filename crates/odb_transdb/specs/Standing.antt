@@ -58,6 +58,12 @@ pub record IsPlaced (db : Db) : Type 0 where
   pub from : first_on db.header db.header.active ≤ db.active.next
   pub some : 1 ≤ first_on db.header db.header.active
 
+-- they are under the same header, and both placed
+pub record AreAlikePlaced (old new : Db) : Type 0 where
+  pub header : new.header ≡ old.header
+  pub before : IsPlaced old
+  pub after : IsPlaced new
+
 -- the bytes are those of the pair, and hold these entries
 pub record StandsFor (db : Db) (entries : List Entry) (bytes : List ℕ) : Type 0 where
   pub pair : PairStandsFor db.pair bytes

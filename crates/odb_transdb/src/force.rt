@@ -1,10 +1,9 @@
 //! How a commit becomes durable.
-ghost use Rattle.std.specs.Prelude.{◌≡◌, ℕ, ◌+◌, ◌≤◌, List, [], ◌∷◌, ◌++◌, true, false, length, Ok, Err, IfOk, OnOk, OnErr, Some, IfSome};
+ghost use Rattle.std.specs.Prelude.{◌≡◌, ℕ, ◌+◌, ◌≤◌, false, [], ◌∷◌, length, Ok, Err, IfOk, OnOk, OnErr};
 ghost use Rattle.odb_device.specs.World.{file_of};
-ghost use Rattle.odb_device.specs.Calls.{FileCountRose};
-ghost use Rattle.odb_reclog.specs.Told.{IfTold, TearsOnly};
-ghost use Rattle.odb_reclog.specs.Records.{payload_at};
-ghost use Rattle.odb_reclog.specs.Standing.{HasItsBody};
+ghost use Rattle.odb_device.specs.Calls.{FileCountRose, IsOnePut};
+ghost use Rattle.odb_device.specs.Moments.{WritesWithin};
+ghost use Rattle.odb_reclog.specs.Records.{OPEN};
 ghost use Rattle.odb_codec.specs.Reading.{read_entry};
 ghost use Rattle.odb_model.specs.declared.entry.Entry.{Entry};
 
@@ -14,10 +13,9 @@ use odb_device::Store;
 use odb_reclog::RecError;
 
 impl Transdb {
-    ghost use Rattle.odb_transdb.specs.Opened.{entries_in};
-    ghost use Rattle.odb_transdb.specs.Standing.{Stands, IsAdvanced, IsPlaced, SamePlace};
-    ghost use Rattle.odb_transdb.specs.Answers.{IsEntryImage, IsForceAnswer, RoseAtGate};
-    ghost use Rattle.odb_transdb.specs.Worlds.{KeepsEntries, KeepsOrAddsEntry, AddsEntry, Settles, IsWrittenIn};
+    ghost use Rattle.odb_transdb.specs.Standing.{Stands, IsPlaced, AreAlikePlaced, SamePlace};
+    ghost use Rattle.odb_transdb.specs.Answers.{IsEntryImage, IsForceAnswer};
+    ghost use Rattle.odb_transdb.specs.Worlds.{KeepsEntries, PutsEntry, IsForced, FaultedBefore, LeavesInDoubt, WritesBehindGate, WritesFromGate, Settles, IsRecorded, IsWrittenIn, IsAtGate};
 
     /// Adds an entry, whose image these bytes are, and answers its number once it is on the disk.
     ///
@@ -32,34 +30,27 @@ impl Transdb {
     /// - `Full`: the record needs more bytes than the side has left. No call of the store was made.
     /// - `FaultBefore`: a call of the store failed before the gate was written, and the entry isn't
     ///   there. The call may be made again.
-    /// - `InDoubt`: one failed from the writing of the gate on, and a crash leaves the entry or
-    ///   not. Only a new opening, and the calls that take no store, may follow.
+    /// - `InDoubt`: the file's count rose in the gate's write or in the sync behind it; before them
+    ///   the record had been written in this call and was on the disk, and beside them no call was
+    ///   made from then on. A crash leaves the entry or not. Only a new opening, and the calls that
+    ///   take no store, may follow.
     pub fn force<S: Store>(&mut self, store: &mut S, payload: &[u8]) -> Result<u64, TransdbError>
         requires usable { self.old.active.in_doubt ≡ false }
         requires payload { IsEntryImage payload.now }
         requires stands { Stands self.old (file_of 0 (S.world store.old)) }
         ensures answer { IsForceAnswer (length payload.now) self.old result }
-        ensures run { (e : Entry) → read_entry self.old.active.next payload.now ≡ Ok e
-            → KeepsOrAddsEntry self.old e (S.world store.old) (S.world store.new) }
-        ensures entries { (e : Entry) → read_entry self.old.active.next payload.now ≡ Ok e
-            → OnOk result (AddsEntry e (S.world store.old) (S.world store.new)) }
-        ensures stands { OnOk result (Stands self.new (file_of 0 (S.world store.new))) }
-        ensures ok { OnOk result (IsAdvanced (13 + length payload.now) self.old self.new) }
+        ensures entry { (e : Entry) → read_entry self.old.active.next payload.now ≡ Ok e
+            → PutsEntry self.old e result (S.world store.old) (S.world store.new) }
+        ensures forced { OnOk result
+            (IsForced (length payload.now) self.old self.new (S.world store.new)) }
         ensures full { (need room : ℕ) → result ≡ Err (TransdbError.Full need room)
             → (self.new ≡ self.old) × (store.new ≡ store.old) }
         ensures before { result ≡ Err TransdbError.FaultBefore
-            → KeepsEntries self.old (S.world store.old) (S.world store.new) }
-        ensures kept { result ≡ Err TransdbError.FaultBefore
-            → Settles self.old self.new (S.world store.old) (S.world store.new) }
-        ensures fault { result ≡ Err TransdbError.FaultBefore
-            → FileCountRose 0 (S.world store.old) (S.world store.new) }
+            → FaultedBefore self.old self.new (S.world store.old) (S.world store.new) }
         ensures doubt { (number : ℕ) → result ≡ Err (TransdbError.InDoubt number)
-            → RoseAtGate self.old (entries_in (file_of 0 (S.world store.old))) payload.now
-            (S.world store.old) (S.world store.new) }
-        ensures same { self.new.header ≡ self.old.header }
-        ensures placed { IsPlaced self.old × IsPlaced self.new }
-        ensures numbers { (number : ℕ) → result ≡ Err (TransdbError.InDoubt number)
-            → SamePlace self.old self.new }
+            → LeavesInDoubt payload.now self.old self.new (S.world store.old) (S.world store.new) }
+        ensures only { WritesFromGate self.old (S.world store.old) (S.world store.new) }
+        ensures placed { AreAlikePlaced self.old self.new }
     {
         let need = HEAD_SIZE + payload.len() as u64;
         let room = self.active.room();
@@ -83,12 +74,9 @@ impl Transdb {
         requires stands { Stands self.old (file_of 0 (S.world store.old)) }
         ensures run { KeepsEntries self.old (S.world store.old) (S.world store.new) }
         ensures settled { Settles self.old self.new (S.world store.old) (S.world store.new) }
-        ensures body { OnOk result ((self.new.active.has_body ≡ true)
-            × HasItsBody self.new.active (file_of 0 (S.world store.new))) }
-        ensures payload { OnOk result (IfTold 0 (S.world store.new)
-            (λ bytes. payload_at self.new.active.place bytes ≡ payload.now)) }
-        ensures behind { OnOk result (self.new.active.clear_from
-            ≡ self.old.active.place + 13 + length payload.now) }
+        ensures gate { WritesBehindGate self.old (S.world store.old) (S.world store.new) }
+        ensures recorded { OnOk result
+            (IsRecorded payload.now self.old self.new (S.world store.old) (S.world store.new)) }
         ensures end { self.new.active.end ≡ self.old.active.end }
         ensures placed { IsPlaced self.new }
         ensures cause { OnErr result (FileCountRose 0 (S.world store.old) (S.world store.new)) }
@@ -100,17 +88,13 @@ impl Transdb {
     /// Opens the gate of the record that was written, which counts then, and answers its number: on
     /// the disk after Ok.
     fn open_gate<S: Store>(&mut self, store: &mut S) -> Result<u64, RecError>
-        requires usable { self.old.active.in_doubt ≡ false }
-        requires room { self.old.active.place + 13 ≤ self.old.active.end }
-        requires behind { self.old.active.place ≤ self.old.active.clear_from }
-        requires written { self.old.active.has_body ≡ true }
-        requires body { HasItsBody self.old.active (file_of 0 (S.world store.old)) }
-        requires stands { Stands self.old (file_of 0 (S.world store.old)) }
-        ensures run { (e : Entry) → IsWrittenIn self.old e (S.world store.old)
-            → KeepsOrAddsEntry self.old e (S.world store.old) (S.world store.new) }
-        ensures only { TearsOnly 0 self.old.active.place 1 (S.world store.old) (S.world store.new) }
-        ensures entries { (e : Entry) → IsWrittenIn self.old e (S.world store.old)
-            → OnOk result (AddsEntry e (S.world store.old) (S.world store.new)) }
+        requires ready { IsAtGate self.old (S.world store.old) }
+        ensures only { WritesWithin 0 self.old.active.place 1
+            (S.world store.old) (S.world store.new) }
+        ensures calls { IsOnePut 0 self.old.active.place (OPEN ∷ [])
+            (S.world store.old) (S.world store.new) }
+        ensures entry { (e : Entry) → IsWrittenIn self.old e (S.world store.old)
+            → PutsEntry self.old e result (S.world store.old) (S.world store.new) }
         ensures stands { (e : Entry) → IsWrittenIn self.old e (S.world store.old)
             → OnOk result (Stands self.new (file_of 0 (S.world store.new))) }
         ensures number { IfOk result (λ n. n ≡ self.old.active.next) }

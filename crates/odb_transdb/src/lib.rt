@@ -15,4 +15,5 @@ mod transdb;
 
 pub use error::TransdbError;
 pub use header::Header;
+pub use opening::OpenedTransdb;
 pub use transdb::Transdb;

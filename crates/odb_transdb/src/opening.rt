@@ -1,19 +1,19 @@
 //! Opening TRANSDB, with each check that its bytes are in order.
 ghost use Rattle.std.specs.Prelude.{◌≡◌, ◌≢◌, ◌⊎◌, ℕ, ◌+◌, ◌-◌, ◌<◌, ◌≤◌, ◌++◌, true, false, length, drop, option_map, Some, None, IsTrue, IsSome, IfSome, IfOk, IfErr, Ok, Err};
 ghost use Rattle.odb_device.specs.World.{file_of};
-ghost use Rattle.odb_device.specs.Images.{EachImage, IsKept, part};
+ghost use Rattle.odb_device.specs.Images.{EachImage, part};
 ghost use Rattle.odb_device.specs.Calls.{FileCountRose, HasCause, Keeps};
-ghost use Rattle.odb_pair.specs.Places.{opened as pair_opened, holding as holding_value};
+ghost use Rattle.odb_pair.specs.Places.{opened as pair_opened};
 ghost use Rattle.odb_pair.specs.Standing.{StandsFor as PairStandsFor};
 ghost use Rattle.odb_reclog.specs.Standing.{Stands as LogStands};
 ghost use Rattle.odb_reclog.specs.Told.{IfTold, OnlyReads, TearsOnly};
 ghost use Rattle.odb_model.specs.declared.side.OtherSide.TheVariants.{Live};
-ghost use Rattle.odb_transdb.specs.Header.{header_image, is_header, file_size, other_of, active_first};
+ghost use Rattle.odb_transdb.specs.Header.{is_header, file_size, other_of, active_first};
 ghost use Rattle.odb_transdb.specs.Opened.{opened, first_other_place, side_list, side_entries, with_sides, with_header};
-ghost use Rattle.odb_transdb.specs.Standing.{IsOfSide, IsPlaced, AreAllOf, FillActive, Stands};
-ghost use Rattle.odb_transdb.specs.Answers.{IsAnswerBy, IsOpenAnswer, IsFullAnswer, IsOpenRefusal, IsReadRefusal};
+ghost use Rattle.odb_transdb.specs.Standing.{IsOfSide, Stands};
+ghost use Rattle.odb_transdb.specs.Answers.{IsAnswerBy, IsOpenAnswer, IsFullAnswer, IsOpenRefusal, FailsAsRead};
 ghost use Rattle.odb_transdb.specs.Walking.{live_read, IsReadOf, AddsPart};
-ghost use Rattle.odb_transdb.specs.Worlds.{OpensAsBefore, OnlyClosesGates, SameEntries, KeepsSideOf, LeadsToActive};
+ghost use Rattle.odb_transdb.specs.Worlds.{OpensAsBefore, OnlyClosesGates, HasClosedGates, TearsSideEnd, SameEntries, IsOpened, HasPair, KeepsSideOf, LeadsToActive};
 ghost use Rattle.odb_transdb.specs.Opening.{IsPairFound, IsFirstOther, IsUnless, IsChecked, EndsRight, GoesOn, IsCounted, IsLiveLog};
 
 use crate::header::Header;
@@ -30,6 +30,13 @@ use std::alloc::Global;
 /// How many bytes of a clean side are read by one call.
 const PIECE: usize = 65_536;
 
+/// TRANSDB as it was opened, and all of its entries, in order.
+#[derive(Debug, Drop)]
+pub struct OpenedTransdb {
+    pub transdb: Transdb,
+    pub entries: Entries,
+}
+
 impl Transdb {
     /// The TRANSDB that file 0 is as it reads, which is on the disk then.
     ///
@@ -38,8 +45,9 @@ impl Transdb {
         ensures answer { IfTold 0 (S.world store.old)
             (λ bytes. IsOpenAnswer result (opened bytes)) }
         ensures run { OpensAsBefore (S.world store.old) (S.world store.new) }
-        ensures bytes { result ≢ Err TransdbError.Fault
-            → OnlyClosesGates (S.world store.old) (S.world store.new) }
+        ensures bytes { OnlyClosesGates (S.world store.old) (S.world store.new) }
+        ensures closed { result ≢ Err TransdbError.Fault
+            → HasClosedGates (S.world store.old) (S.world store.new) }
         ensures nothing { result ≡ Err TransdbError.NoDatabase
             → Keeps 0 (S.world store.old) (S.world store.new) }
         ensures stands { IfOk result (λ db. Stands db (file_of 0 (S.world store.new))) }
@@ -50,7 +58,7 @@ impl Transdb {
             → FileCountRose 0 (S.world store.old) (S.world store.new) }
     {
         match Transdb::open_with_entries(alloc, store) {
-            Ok((transdb, _entries)) => Ok(transdb),
+            Ok(opened) => Ok(opened.transdb),
             Err(error) => Err(error),
         }
     }
@@ -61,8 +69,9 @@ impl Transdb {
     /// It syncs, reads the pair, and goes once over each side that holds entries, after one more
     /// sync, in pieces of 65,536 bytes and by one read more for each record that lies across the
     /// end of a piece. A clean side is read once. Behind the last record of a side a gate that is
-    /// open is closed, by one write and one sync, also where it then refuses: no record is lost by
-    /// it. It takes memory for the entries, and for the records of one side at a time.
+    /// open is closed, by one write and one sync, also where it then refuses; no other byte is
+    /// written, and no record is lost. It takes memory for the entries, and for the records of one
+    /// side at a time.
     ///
     /// - `NoDatabase`: the pair has no open place.
     /// - `Damaged`: by the first of these. At 0, the pair is malformed or keeps no lawful header;
@@ -74,20 +83,18 @@ impl Transdb {
     pub fn open_with_entries<S: Store>(
         alloc: Global,
         store: &mut S,
-    ) -> Result<(Transdb, Entries), TransdbError>
+    ) -> Result<OpenedTransdb, TransdbError>
         ensures answer { IfTold 0 (S.world store.old)
             (λ bytes. IsFullAnswer result (opened bytes)) }
         ensures run { OpensAsBefore (S.world store.old) (S.world store.new) }
-        ensures bytes { result ≢ Err TransdbError.Fault
-            → OnlyClosesGates (S.world store.old) (S.world store.new) }
+        ensures bytes { OnlyClosesGates (S.world store.old) (S.world store.new) }
+        ensures closed { result ≢ Err TransdbError.Fault
+            → HasClosedGates (S.world store.old) (S.world store.new) }
         ensures nothing { result ≡ Err TransdbError.NoDatabase
             → Keeps 0 (S.world store.old) (S.world store.new) }
-        ensures stands { IfOk result (λ found. Stands found.0 (file_of 0 (S.world store.new))) }
+        ensures opened { IfOk result
+            (λ found. IsOpened found.transdb found.entries (S.world store.new)) }
         ensures entries { IfOk result (λ _. SameEntries (S.world store.old) (S.world store.new)) }
-        ensures usable { IfOk result (λ found. found.0.active.in_doubt ≡ false) }
-        ensures numbers { IfOk result (λ found. AreAllOf found.0 found.1) }
-        ensures width { IfOk result (λ found. FillActive found.0 found.1) }
-        ensures placed { IfOk result (λ found. IsPlaced found.0) }
         ensures refusal { IsOpenRefusal result }
         ensures cause { result ≡ Err TransdbError.Fault
             → FileCountRose 0 (S.world store.old) (S.world store.new) }
@@ -127,27 +134,17 @@ fn open_sides<S: Store>(
     store: &mut S,
     pair: Pair,
     header: Header,
-) -> Result<(Transdb, Entries), TransdbError>
-    requires lawful { IsTrue (is_header header) }
-    requires value { pair.value ≡ header_image header }
-    requires pair { (pair.file ≡ 0) × (pair.settled ≡ true) }
-    requires kept { IsKept (file_of 0 (S.world store.old)) }
-    requires stands { EachImage (PairStandsFor pair) (file_of 0 (S.world store.old)) }
-    requires found { IfTold 0 (S.world store.old)
-        (λ bytes. pair_opened bytes ≡ holding_value pair.value) }
+) -> Result<OpenedTransdb, TransdbError>
+    requires found { HasPair pair header (S.world store.old) }
     ensures answer { IfTold 0 (S.world store.old) (λ bytes. IsFullAnswer result (opened bytes)) }
     ensures run { OpensAsBefore (S.world store.old) (S.world store.new) }
-    ensures bytes { result ≢ Err TransdbError.Fault
-        → OnlyClosesGates (S.world store.old) (S.world store.new) }
-    ensures stands { IfOk result (λ found. Stands found.0 (file_of 0 (S.world store.new))) }
+    ensures bytes { OnlyClosesGates (S.world store.old) (S.world store.new) }
+    ensures closed { result ≢ Err TransdbError.Fault
+        → HasClosedGates (S.world store.old) (S.world store.new) }
+    ensures opened { IfOk result
+        (λ found. IsOpened found.transdb found.entries (S.world store.new)) }
     ensures entries { IfOk result (λ _. SameEntries (S.world store.old) (S.world store.new)) }
-    ensures usable { IfOk result (λ found. found.0.active.in_doubt ≡ false) }
-    ensures numbers { IfOk result (λ found. AreAllOf found.0 found.1) }
-    ensures width { IfOk result (λ found. FillActive found.0 found.1) }
-    ensures placed { IfOk result (λ found. IsPlaced found.0) }
-    ensures refusal { IsReadRefusal result }
-    ensures cause { result ≡ Err TransdbError.Fault
-        → FileCountRose 0 (S.world store.old) (S.world store.new) }
+    ensures fails { FailsAsRead 0 result (S.world store.old) (S.world store.new) }
 {
     check_sides(store, &header)?;
     let (live, mut entries) = open_live(alloc, store, &header)?;
@@ -158,7 +155,10 @@ fn open_sides<S: Store>(
         active,
         live,
     };
-    Ok((transdb, Frozen::new(entries)))
+    Ok(OpenedTransdb {
+        transdb,
+        entries: Frozen::new(entries),
+    })
 }
 
 /// Refuses a file that is shorter than its sides, at its length, and a Clean side that isn't zeros,
@@ -169,9 +169,7 @@ fn check_sides<S: Store>(store: &mut S, header: &Header) -> Result<(), TransdbEr
     ensures told { IfTold 0 (S.world store.old)
         (λ bytes. IsUnless (with_header (Some header.now) bytes)
         (λ _. IsChecked header.now bytes) result) }
-    ensures refusal { IsReadRefusal result }
-    ensures cause { result ≡ Err TransdbError.Fault
-        → FileCountRose 0 (S.world store.old) (S.world store.new) }
+    ensures fails { FailsAsRead 0 result (S.world store.old) (S.world store.new) }
 {
     let length = store.length(FILE)?;
     if length < header.file_size() {
@@ -262,8 +260,9 @@ fn open_side<S: Store>(
         (λ bytes. IfOk result (λ found. found.payloads ≡ side_list header.now side bytes)) }
     ensures count { IfOk result (λ found. IsCounted header.now side found.log found.payloads) }
     ensures usable { IfOk result (λ found. found.log.in_doubt ≡ false) }
-    ensures bytes { result ≢ Err TransdbError.Fault
-        → OnlyClosesGates (S.world store.old) (S.world store.new) }
+    ensures gate { TearsSideEnd header.now side (S.world store.old) (S.world store.new) }
+    ensures closed { result ≢ Err TransdbError.Fault
+        → HasClosedGates (S.world store.old) (S.world store.new) }
     ensures refusal { IfErr result (λ e. (e ≡ TransdbError.Fault) ⊎ (e ≡ TransdbError.NoMemory)) }
     ensures cause { result ≡ Err TransdbError.Fault
         → FileCountRose 0 (S.world store.old) (S.world store.new) }
@@ -299,11 +298,11 @@ fn open_live<S: Store>(
     ensures log { IfOk result (λ found. IsLiveLog header.now found.0) }
     ensures stands { IfOk result (λ found. IfSome found.0
         (λ log. LogStands log (file_of 0 (S.world store.new)))) }
-    ensures bytes { result ≢ Err TransdbError.Fault
-        → OnlyClosesGates (S.world store.old) (S.world store.new) }
-    ensures refusal { IsReadRefusal result }
-    ensures cause { result ≡ Err TransdbError.Fault
-        → FileCountRose 0 (S.world store.old) (S.world store.new) }
+    ensures gate { header.now.other ≡ Live
+        → TearsSideEnd header.now (other_of header.now) (S.world store.old) (S.world store.new) }
+    ensures closed { result ≢ Err TransdbError.Fault
+        → HasClosedGates (S.world store.old) (S.world store.new) }
+    ensures fails { FailsAsRead 0 result (S.world store.old) (S.world store.new) }
 {
     let mut entries = List::new(alloc);
     if header.other != OtherSide::Live {
@@ -342,11 +341,11 @@ fn open_active<S: Store>(
     ensures least { IfOk result (λ log. (active_first header.now ≤ log.next)
         × (log.start ≤ log.place)) }
     ensures usable { IfOk result (λ log. log.in_doubt ≡ false) }
-    ensures bytes { result ≢ Err TransdbError.Fault
-        → OnlyClosesGates (S.world store.old) (S.world store.new) }
-    ensures refusal { IsReadRefusal result }
-    ensures cause { result ≡ Err TransdbError.Fault
-        → FileCountRose 0 (S.world store.old) (S.world store.new) }
+    ensures gate { TearsSideEnd header.now header.now.active
+        (S.world store.old) (S.world store.new) }
+    ensures closed { result ≢ Err TransdbError.Fault
+        → HasClosedGates (S.world store.old) (S.world store.new) }
+    ensures fails { FailsAsRead 0 result (S.world store.old) (S.world store.new) }
 {
     let found = open_side(alloc, store, header, header.active)?;
     add_payloads(alloc, header, header.active, found.payloads, entries)?;

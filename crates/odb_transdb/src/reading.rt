@@ -3,7 +3,7 @@ ghost use Rattle.std.specs.Prelude.{◌≡◌, ◌≢◌, ◌⊎◌, ◌+◌, �
 ghost use Rattle.odb_device.specs.World.{file_of};
 ghost use Rattle.odb_device.specs.Calls.{FileCountRose};
 ghost use Rattle.odb_reclog.specs.Told.{IfTold, OnlyReads};
-ghost use Rattle.odb_reclog.specs.Reading.{IsPlaceOf};
+ghost use Rattle.odb_reclog.specs.Reading.{CanRead};
 ghost use Rattle.odb_reclog.specs.Records.{end_of_list};
 ghost use Rattle.odb_reclog.specs.Standing.{Stands as LogStands};
 ghost use Rattle.odb_reclog.specs.Windows.{Shows};
@@ -11,7 +11,7 @@ ghost use Rattle.odb_model.specs.Width.{records_width};
 ghost use Rattle.odb_transdb.specs.Header.{side_start, first_on, first_held, active_first};
 ghost use Rattle.odb_transdb.specs.Standing.{AreSides};
 ghost use Rattle.odb_transdb.specs.Opened.{entries_from};
-ghost use Rattle.odb_transdb.specs.Answers.{IsReadRefusal};
+ghost use Rattle.odb_transdb.specs.Answers.{IsReadRefusal, FailsAsRead};
 ghost use Rattle.odb_transdb.specs.Walking.{live_read, sides_read, log_entries, log_record, IsReadOf, IsRecordOf, IsEntryOf, AddsPart, AddsPayloads, AddsSome, AreUpTo, AreSome};
 
 use crate::transdb::HEAD_SIZE;
@@ -101,9 +101,7 @@ fn add_sides<S: Store>(
         → records_width (drop (active_first header.now - from) entries.new.items)
         ≡ active.now.place - active.now.start) }
     ensures some { AreSome from active.now.next entries.new.items }
-    ensures refusal { IsReadRefusal result }
-    ensures cause { result ≡ Err TransdbError.Fault
-        → FileCountRose 0 (S.world store.old) (S.world store.new) }
+    ensures fails { FailsAsRead 0 result (S.world store.old) (S.world store.new) }
 {
     add_live(alloc, store, header, live, active, from, entries)?;
     let start = header.side_start(header.active);
@@ -133,9 +131,7 @@ fn add_live<S: Store>(
         (live_read header.now header.now.other bytes) result) }
     ensures numbers { OnOk result (AreUpTo from (active_first header.now) entries.new.items) }
     ensures some { AreSome from (active_first header.now) entries.new.items }
-    ensures refusal { IsReadRefusal result }
-    ensures cause { result ≡ Err TransdbError.Fault
-        → FileCountRose 0 (S.world store.old) (S.world store.new) }
+    ensures fails { FailsAsRead 0 result (S.world store.old) (S.world store.new) }
 {
     let Some(log) = live else {
         return Ok(());
@@ -174,9 +170,7 @@ fn add_entries<S: Store>(
     ensures part { OnOk result (AddsPart from log.now.first log.now.next
         (log.now.place - log.now.start) entries.old.items entries.new.items) }
     ensures some { AddsSome from log.now.first log.now.next entries.old.items entries.new.items }
-    ensures refusal { IsReadRefusal result }
-    ensures cause { result ≡ Err TransdbError.Fault
-        → FileCountRose log.now.file (S.world store.old) (S.world store.new) }
+    ensures fails { FailsAsRead log.now.file result (S.world store.old) (S.world store.new) }
 {
     let end = log.place();
     let next = log.next_number();
@@ -252,10 +246,7 @@ fn record_at<S: Store>(
     at: u64,
     number: u64,
 ) -> Result<LogRecord, TransdbError>
-    requires usable { log.now.in_doubt ≡ false }
-    requires stands { LogStands log.now (file_of log.now.file (S.world store.old)) }
-    requires within { (log.now.start ≤ at) × (at ≤ log.now.place) }
-    requires place { IsPlaceOf log.now at (S.world store.old) }
+    requires readable { CanRead log.now at (S.world store.old) }
     requires shows { Shows window.old (file_of log.now.file (S.world store.old)) }
     ensures run { OnlyReads log.now.file (S.world store.old) (S.world store.new) }
     ensures told { IfTold log.now.file (S.world store.old)
@@ -263,9 +254,7 @@ fn record_at<S: Store>(
     ensures found { IfOk result (λ r. (r.number ≡ number) × (number < log.now.next)
         × (r.next ≤ log.now.place) × (r.next ≡ at + 13 + length r.payload)) }
     ensures shows { OnOk result (Shows window.new (file_of log.now.file (S.world store.old))) }
-    ensures refusal { IsReadRefusal result }
-    ensures cause { result ≡ Err TransdbError.Fault
-        → FileCountRose log.now.file (S.world store.old) (S.world store.new) }
+    ensures fails { FailsAsRead log.now.file result (S.world store.old) (S.world store.new) }
 {
     match log.records_by(alloc, store, window, at) {
         Ok(Some(record)) if record.number == number => Ok(record),

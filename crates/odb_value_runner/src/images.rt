@@ -1,60 +1,99 @@
 //! Lines on images of entries, keys and rows: what they are decoded to, and the same image encoded
 //! again.
-use crate::error::LineError;
-use crate::parts::{hex_of, part};
-use crate::values::tell_tuple;
 use odb_codec::{
     CodecError, decode_entry, decode_key, decode_row, encode_entry, encode_key, encode_row,
 };
 use odb_model::{Entry, Write};
+use odb_row_values::{LineError, hex_of, part, put, tell_tuple};
+use odb_values::{Bytes, Key, Row, Value};
 use std::alloc::{AllocError, Global};
 
 /// The number under which images of entries are decoded: it isn't in them.
 const NUMBER: u64 = 7;
 
+/// What an image stands for, and the image of that.
+#[derive(Drop)]
+struct Again<T> {
+    found: T,
+    image: Bytes,
+}
+
 /// `entry-image HEX`: the entry of an image, or the place at which it is malformed.
 pub fn entry_image(alloc: Global, out: &mut String, digits: &str) -> Result<(), LineError> {
     let bytes = hex_of(alloc, digits)?;
-    match decode_entry(alloc, NUMBER, bytes.as_slice()) {
-        Ok(entry) => {
-            tell_entry(out, &entry)?;
-            match encode_entry(alloc, &entry) {
-                Ok(again) => is_again(out, again.as_slice(), bytes.as_slice()),
-                Err(_) => Err(LineError::Memory(AllocError)),
-            }
-        }
+    match entry_again(alloc, bytes.as_slice()) {
+        Ok(again) => tell_entry_again(out, &again, bytes.as_slice()),
         Err(error) => tell_fault(out, error),
     }
+}
+
+/// The entry of an image, and its image.
+fn entry_again(alloc: Global, bytes: &[u8]) -> Result<Again<Entry>, CodecError> {
+    let found = decode_entry(alloc, NUMBER, bytes)?;
+    let image = encode_entry(alloc, &found)?;
+    Ok(Again { found, image })
+}
+
+fn tell_entry_again(out: &mut String, again: &Again<Entry>, bytes: &[u8]) -> Result<(), LineError> {
+    tell_entry(out, &again.found)?;
+    is_again(out, again.image.as_slice(), bytes)
 }
 
 /// `key-image HEX`: the key of an image, or the place at which it is malformed.
 pub fn key_image(alloc: Global, out: &mut String, digits: &str) -> Result<(), LineError> {
     let bytes = hex_of(alloc, digits)?;
-    match decode_key(alloc, bytes.as_slice()) {
-        Ok(key) => {
-            tell_tuple(out, key.as_slice())?;
-            match encode_key(alloc, &key) {
-                Ok(again) => is_again(out, again.as_slice(), bytes.as_slice()),
-                Err(_) => Err(LineError::Memory(AllocError)),
-            }
+    match key_again(alloc, bytes.as_slice()) {
+        Ok(again) => {
+            tell_tuple_again(
+                out,
+                again.found.as_slice(),
+                again.image.as_slice(),
+                bytes.as_slice(),
+            )
         }
         Err(error) => tell_fault(out, error),
     }
 }
 
+/// The key of an image, and its image.
+fn key_again(alloc: Global, bytes: &[u8]) -> Result<Again<Key>, CodecError> {
+    let found = decode_key(alloc, bytes)?;
+    let image = encode_key(alloc, &found)?;
+    Ok(Again { found, image })
+}
+
 /// `row-image HEX`: the row of an image, or the place at which it is malformed.
 pub fn row_image(alloc: Global, out: &mut String, digits: &str) -> Result<(), LineError> {
     let bytes = hex_of(alloc, digits)?;
-    match decode_row(alloc, bytes.as_slice()) {
-        Ok(row) => {
-            tell_tuple(out, row.as_slice())?;
-            match encode_row(alloc, &row) {
-                Ok(again) => is_again(out, again.as_slice(), bytes.as_slice()),
-                Err(_) => Err(LineError::Memory(AllocError)),
-            }
+    match row_again(alloc, bytes.as_slice()) {
+        Ok(again) => {
+            tell_tuple_again(
+                out,
+                again.found.as_slice(),
+                again.image.as_slice(),
+                bytes.as_slice(),
+            )
         }
         Err(error) => tell_fault(out, error),
     }
+}
+
+/// The row of an image, and its image.
+fn row_again(alloc: Global, bytes: &[u8]) -> Result<Again<Row>, CodecError> {
+    let found = decode_row(alloc, bytes)?;
+    let image = encode_row(alloc, &found)?;
+    Ok(Again { found, image })
+}
+
+/// Tells values that were decoded from these bytes, and where their image isn't these again.
+fn tell_tuple_again(
+    out: &mut String,
+    values: &[Value],
+    image: &[u8],
+    bytes: &[u8],
+) -> Result<(), LineError> {
+    tell_tuple(out, values)?;
+    is_again(out, image, bytes)
 }
 
 /// Says where what was decoded isn't encoded to the same bytes.
@@ -62,7 +101,7 @@ fn is_again(out: &mut String, again: &[u8], bytes: &[u8]) -> Result<(), LineErro
     if again == bytes {
         return Ok(());
     }
-    Ok(out.push_str(", which is encoded to other bytes")?)
+    put(out, ", which is encoded to other bytes")
 }
 
 fn tell_fault(out: &mut String, error: CodecError) -> Result<(), LineError> {

@@ -1,33 +1,36 @@
 //! Lines on lines of scripts, and on replies.
-use crate::error::LineError;
-use crate::statements::{put_bytes, put_canonical};
-use crate::values::{number_in, tuples_of};
+use crate::calls::{asked, replied};
 use odb_model::{Event, Head, Reply};
 use odb_parse::control_of;
-use odb_play::event_of;
-use odb_reply::print_reply;
+use odb_row_values::{LineError, number_in, put, put_bytes, put_canonical, tuples_of};
 use odb_rowfile::{number_of, split_word};
 use odb_values::Frozen;
-use std::alloc::{AllocError, Global};
+use std::alloc::Global;
 
 /// `control LINE`: the step of upkeep that a line asks for, or none.
 pub fn control(out: &mut String, line: &[u8]) -> Result<(), LineError> {
     match control_of(line) {
         Some(control) => Ok(write!(out, "{control:?}")?),
-        None => Ok(out.push_str("none")?),
+        None => put(out, "none"),
     }
 }
 
 /// `event LINE`: whom a line is from and what it asks for, in its canonical text; or the reply that
 /// refuses it.
 pub fn event(alloc: Global, out: &mut String, line: &[u8]) -> Result<(), LineError> {
-    match event_of(alloc, line) {
-        Ok(Event::Session { session, statement }) => {
-            write!(out, "{session} ")?;
-            put_canonical(alloc, out, &statement)
-        }
-        Ok(Event::Control(control)) => Ok(write!(out, "! {control:?}")?),
+    match asked(alloc, line) {
+        Ok(event) => tell_event(alloc, out, &event),
         Err(refusal) => put_reply(alloc, out, refusal.head(), &refusal.reply()),
+    }
+}
+
+fn tell_event(alloc: Global, out: &mut String, event: &Event) -> Result<(), LineError> {
+    match event {
+        Event::Session { session, statement } => {
+            write!(out, "{session} ")?;
+            put_canonical(alloc, out, statement)
+        }
+        Event::Control(control) => Ok(write!(out, "! {control:?}")?),
     }
 }
 
@@ -38,22 +41,30 @@ pub fn put_reply(
     head: Head,
     reply: &Reply,
 ) -> Result<(), LineError> {
-    match print_reply(alloc, head, reply) {
-        Ok(bytes) => put_bytes(out, bytes.as_slice()),
-        Err(_) => Err(LineError::Memory(AllocError)),
-    }
+    let bytes = replied(alloc, head, reply)?;
+    put_bytes(out, bytes.as_slice())
 }
 
 /// `reply HEAD REPLY`: the bytes of a reply under its head.
 pub fn reply(alloc: Global, out: &mut String, given: &str) -> Result<(), LineError> {
     let (head, rest) = split_word(given);
-    let (word, rest) = split_word(rest);
-    let reply = match word {
-        "ROWS" if rest == "()" => Reply::Rows(Frozen::empty(alloc)),
-        "ROWS" => Reply::Rows(tuples_of(alloc, rest)?),
-        _ => plain_reply(word, rest)?,
-    };
-    put_reply(alloc, out, head_of(head)?, &reply)
+    let reply = reply_of(alloc, rest)?;
+    put_under(alloc, out, head, &reply)
+}
+
+/// Puts the bytes of a reply under the head of a word.
+fn put_under(alloc: Global, out: &mut String, head: &str, reply: &Reply) -> Result<(), LineError> {
+    put_reply(alloc, out, head_of(head)?, reply)
+}
+
+/// The reply of a text.
+fn reply_of(alloc: Global, text: &str) -> Result<Reply, LineError> {
+    let (word, rest) = split_word(text);
+    match word {
+        "ROWS" if rest == "()" => Ok(Reply::Rows(Frozen::empty(alloc))),
+        "ROWS" => Ok(Reply::Rows(tuples_of(alloc, rest)?)),
+        _ => plain_reply(word, rest),
+    }
 }
 
 fn head_of(word: &str) -> Result<Head, LineError> {
@@ -93,8 +104,18 @@ fn bare_reply(word: &str) -> Result<Reply, LineError> {
         "NOTYET" => Ok(Reply::NotYet),
         "NOTRANSACTION" => Ok(Reply::NoTransaction),
         "INTRANSACTION" => Ok(Reply::InTransaction),
+        "NOTABLE" => Ok(Reply::NoTable),
+        "NOCOLUMN" => Ok(Reply::NoColumn),
+        "KINDMISMATCH" => Ok(Reply::KindMismatch),
+        "KEYCOLUMN" => Ok(Reply::KeyColumn),
+        "COLUMNCOUNT" => Ok(Reply::ColumnCount),
         "DUPLICATE" => Ok(Reply::Duplicate),
+        "NULLNOTALLOWED" => Ok(Reply::NullNotAllowed),
+        "TOOLONG" => Ok(Reply::TooLong),
+        "KEYTOOWIDE" => Ok(Reply::KeyTooWide),
+        "ROWTOOWIDE" => Ok(Reply::RowTooWide),
         "TOOMANYWRITES" => Ok(Reply::TooManyWrites),
+        "OVERFLOW" => Ok(Reply::Overflow),
         "MEMORY" => Ok(Reply::Memory),
         _ => Err(LineError::Unreadable("no reply has this word")),
     }

@@ -1,9 +1,11 @@
 //! The runner of rows whose lines are single cases.
-use crate::error::LineError;
-use crate::parts::{Parts, bytes_of, parts_of};
 use crate::scene::Scene;
-use crate::{images, lines, order, plain, statements, tokens};
-use odb_rowfile::{Row, RowRunner, Verdict};
+use crate::{images, lines, plain};
+use odb_row_values::{
+    LineError, Parts, ascending_line, bytes_of, compare_line, keyed_line, meaning_line, parse_line,
+    parts_of, range_line, tell_line, text_line, tokens_line, worded_line,
+};
+use odb_rowfile::{Row, RowLine, RowRunner, Verdict};
 use std::alloc::{AllocError, Global};
 use std::str;
 
@@ -15,18 +17,7 @@ pub struct ValueRunner;
 impl RowRunner for ValueRunner {
     fn run_row(&mut self, alloc: Global, row: &Row) -> Result<Verdict, AllocError> {
         let mut scene = Scene::new(alloc);
-        let mut checks = 0u64;
-        for line in row.lines.iter() {
-            match run_line(alloc, &mut scene, line.text.as_str())? {
-                Finding::Set => {}
-                Finding::Holds => checks = checks.saturating_add(1),
-                Finding::Wrong(why) => return Ok(Verdict::Wrong {
-                    line: line.number,
-                    why,
-                }),
-            }
-        }
-        Ok(Verdict::Holds { checks })
+        run_lines(alloc, &mut scene, row.lines.as_slice())
     }
 
     fn tally(&mut self, alloc: Global) -> Result<String, AllocError> {
@@ -43,6 +34,22 @@ enum Finding {
     Holds,
     /// It isn't, or the line can't be read.
     Wrong(String),
+}
+
+/// Runs lines, up to the first that is wrong.
+fn run_lines(alloc: Global, scene: &mut Scene, lines: &[RowLine]) -> Result<Verdict, AllocError> {
+    let mut checks = 0u64;
+    for line in lines {
+        match run_line(alloc, scene, line.text.as_str())? {
+            Finding::Set => {}
+            Finding::Holds => checks = checks.saturating_add(1),
+            Finding::Wrong(why) => return Ok(Verdict::Wrong {
+                line: line.number,
+                why,
+            }),
+        }
+    }
+    Ok(Verdict::Holds { checks })
 }
 
 /// Runs a line.
@@ -74,12 +81,22 @@ fn compared(
 ) -> Result<Finding, LineError> {
     let given = bytes_of(alloc, parts.given)?;
     let expected = bytes_of(alloc, wanted)?;
-    let mut found = String::new(alloc);
-    find(alloc, &mut found, scene, parts.kind, given.as_slice())?;
+    let found = found(alloc, scene, parts.kind, given.as_slice())?;
     if found.as_bytes() == expected.as_slice() {
         return Ok(Finding::Holds);
     }
-    Ok(Finding::Wrong(message(alloc, wanted, found.as_str())?))
+    differing(alloc, wanted, found.as_str())
+}
+
+/// What a line of this kind gives.
+fn found(alloc: Global, scene: &Scene, kind: &str, given: &[u8]) -> Result<String, LineError> {
+    let mut found = String::new(alloc);
+    find(alloc, &mut found, scene, kind, given)?;
+    Ok(found)
+}
+
+fn differing(alloc: Global, wanted: &str, found: &str) -> Result<Finding, LineError> {
+    Ok(Finding::Wrong(message(alloc, wanted, found)?))
 }
 
 /// The most characters of what is found that a message shows.
@@ -103,10 +120,10 @@ fn find(
     given: &[u8],
 ) -> Result<(), LineError> {
     match kind {
-        "parse" => statements::canonical(alloc, out, given),
-        "tell" => statements::told(alloc, out, given),
-        "tokens" => tokens::tokens(out, given),
-        "meaning" => tokens::meaning(alloc, out, given),
+        "parse" => parse_line(alloc, out, given),
+        "tell" => tell_line(alloc, out, given),
+        "tokens" => tokens_line(out, given),
+        "meaning" => meaning_line(alloc, out, given),
         "control" => lines::control(out, given),
         "event" => lines::event(alloc, out, given),
         _ => match str::from_utf8(given) {
@@ -125,13 +142,13 @@ fn find_in_text(
     given: &str,
 ) -> Result<(), LineError> {
     match kind {
-        "worded" => statements::worded(out, given),
+        "worded" => worded_line(out, given),
         "reply" => lines::reply(alloc, out, given),
-        "text" => order::text(alloc, out, given),
-        "keyed" => order::keyed(alloc, out, given),
-        "compare" => order::compare(alloc, out, given),
-        "ascending" => order::ascending(alloc, out, given),
-        "range" => order::range(alloc, out, given),
+        "text" => text_line(alloc, out, given),
+        "keyed" => keyed_line(alloc, out, given),
+        "compare" => compare_line(alloc, out, given),
+        "ascending" => ascending_line(alloc, out, given),
+        "range" => range_line(alloc, out, given),
         "entry-image" => images::entry_image(alloc, out, given),
         "key-image" => images::key_image(alloc, out, given),
         "row-image" => images::row_image(alloc, out, given),

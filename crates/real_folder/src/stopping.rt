@@ -1,5 +1,5 @@
 //! A host over real files with a console in memory, which is stopped or refused at one call.
-ghost use Rattle.std.specs.Prelude.{◌≡◌, ◌≤◌, IsOk, OnErr};
+ghost use Rattle.std.specs.Prelude.{◌≡◌, ◌+◌, ◌≤◌, IsOk, OnErr};
 ghost use Rattle.odb_device.specs.Counts.{Rose};
 
 use odb_device::{Console, Failed, Host, Outside, Store};
@@ -70,6 +70,7 @@ fn counted<T>(answer: Result<T, Failed>, faults: &mut u64) -> Result<T, Failed>
     ensures same { IsOk answer → faults.new ≡ faults.old }
     ensures risen { OnErr answer (Rose faults.old faults.new) }
     ensures kept { faults.old ≤ faults.new }
+    ensures once { faults.new ≤ faults.old + 1 }
 {
     if answer.is_err() {
         *faults = faults.saturating_add(1);

@@ -34,8 +34,11 @@ impl Outside for SlowConsole {
 
     ghost world = { λ s. record {
       time = length s.said.items;
-      moment = λ k. record { files = λ _. None; said = Some (take k s.said.items) };
-      faults = λ _. 0;
+      moment = λ k. record {
+        files = λ _. None;
+        said = Some (take k s.said.items);
+        faults = λ _. 0;
+      };
       talk = record {
         taken = None;
         has_ended = s.has_ended;

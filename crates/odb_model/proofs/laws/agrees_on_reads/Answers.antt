@@ -5,4 +5,4 @@ pub returns-clause-meaning : goal.returns-clause-meaning
 returns-clause-meaning c = meaning-same
 
 pub returns-clause-reads : goal.returns-clause-reads
-returns-clause-reads c = λ st s t same. reads-same st s t
+returns-clause-reads c = reads-same

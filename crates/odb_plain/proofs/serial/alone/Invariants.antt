@@ -6,7 +6,7 @@ use Rattle.odb_plain.proofs.serial.alone.Given as goal
 -- the replies and writes so far, and those of the statements that are left
 abbrev pub invariant-loop-statement : goal.invariant-loop-statement
 invariant-loop-statement l = record {
-  replies : l.replies.items ++ alone_replies (replay l.history) l.write_set.items (drop l.statement-index l.statements) ≡ alone_replies (replay l.history) [] l.statements;
-  writes : alone_writes (replay l.history) l.write_set.items (drop l.statement-index l.statements) ≡ alone_writes (replay l.history) [] l.statements;
+  replies : l.replies.items ++ alone_replies (replay l.history) l.write_set.items (drop l.statement-index l.statements) l.format ≡ alone_replies (replay l.history) [] l.statements l.format;
+  writes : alone_writes (replay l.history) l.write_set.items (drop l.statement-index l.statements) l.format ≡ alone_writes (replay l.history) [] l.statements l.format;
   none_spare : l.replies.spare ≡ 0;
 }

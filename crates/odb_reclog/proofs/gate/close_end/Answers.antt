@@ -5,6 +5,7 @@ use Rattle.odb_device.specs.Moments.{Runs}
 use Rattle.odb_device.proofs.Time.{run_end}
 use Rattle.odb_reclog.specs.Moments.{KeepsLists}
 use Rattle.odb_reclog.proofs.Gates.{EndsOpen, ends_open, closing_run, closes_open}
+use Rattle.odb_reclog.proofs.OpenEnds.{TearsEndOf, closing_gate}
 use Rattle.odb_reclog.proofs.gate.close_end.Given.{Over}
 use Rattle.odb_reclog.proofs.gate.close_end.Goals as goal
 use Rattle.odb_reclog.proofs.gate.close_end.Goals.{After-write_synced}
@@ -29,6 +30,20 @@ run g c =
     closing_run c.args.region.file c.args.region.start c.args.region.end c.args.region.first c.args.place (g.S.Outside.world c.args.store.now)
     (g.S.Outside.world c.is_open.new.store) (g.S.Outside.world c.write_synced.new.store) c.is_open.ensures.run
     c.write_synced.ensures.run c.requires.kept (found g c)
+
+gate : (g : Over) (c : After-write_synced g)
+    → TearsEndOf c.args.region.file c.args.region.start c.args.region.end c.args.region.first (g.S.Outside.world c.args.store.now)
+    (g.S.Outside.world c.write_synced.new.store)
+gate g c =
+    closing_gate c.args.region.file c.args.region.start c.args.region.end c.args.region.first c.args.place (g.S.Outside.world c.args.store.now)
+    (g.S.Outside.world c.is_open.new.store) (g.S.Outside.world c.write_synced.new.store) c.is_open.ensures.run
+    c.write_synced.ensures.run c.requires.kept (found g c)
+
+pub returns-in_err-write_synced-clause-gate : goal.returns-in_err-write_synced-clause-gate
+returns-in_err-write_synced-clause-gate g c = gate g (goal.at.returns-in_err-write_synced-clause-gate g c).After-write_synced
+
+pub returns-clause-gate : goal.returns-clause-gate
+returns-clause-gate g c = gate g (goal.at.returns-clause-gate g c).After-write_synced
 
 pub returns-in_err-write_synced-clause-run : goal.returns-in_err-write_synced-clause-run
 returns-in_err-write_synced-clause-run g c = run g (goal.at.returns-in_err-write_synced-clause-run g c).After-write_synced

@@ -3,7 +3,8 @@ use Rattle.odb_slots.specs.Answers.{IsScanOf}
 use Rattle.odb_slots.specs.declared.error.SlotError.{SlotError}
 use Rattle.odb_slots.specs.declared.item.SlotItem.{SlotItem}
 use Rattle.odb_device.specs.Told.{IfTold}
-use Rattle.odb_slots.proofs.Finding.{scanning_more, scanning_breaks, reads_then}
+use Rattle.odb_device.proofs.Time.{reads_then}
+use Rattle.odb_slots.proofs.Finding.{scanning_more, scanning_breaks}
 use Rattle.odb_slots.proofs.scanning.scan.Goals as goal
 
 pub loop-number-preserved : goal.loop-number-preserved

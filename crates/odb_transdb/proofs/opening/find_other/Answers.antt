@@ -2,6 +2,7 @@ use Rattle.std.proofs.Common.{◌≡◌, ℕ, ◌+◌, ◌^◌, ◌<◌, ◌≤�
 use Rattle.std.specs.Prelude.{IfSome}
 use Rattle.odb_device.specs.World.{File, file_of}
 use Rattle.odb_device.specs.Images.{part}
+use Rattle.odb_device.proofs.Time.{reads_then}
 use Rattle.odb_transdb.specs.Header.{side_start, side_end, other_of}
 use Rattle.odb_transdb.specs.Opening.{IsFirstOther}
 use Rattle.odb_transdb.proofs.Headers.{lawful_is}
@@ -68,3 +69,9 @@ returns-clause-told g c =
     let a = (goal.at.returns-clause-told g c).After-side_size in
     let start = c.side_start-start.result in
     bare_all (g.S.Outside.world c.args.store.now) (g.S.Outside.world c.loop-at.store) start (start + c.side_size.result) c.loop-at.at c.loop-at.invariant c.loop-at-test.false c.args.header.now (starts g a) (ends g a) (long g a)
+
+pub returns-in_err-n-clause-run : goal.returns-in_err-n-clause-run
+returns-in_err-n-clause-run g c = reads_then 0 (g.S.Outside.world c.args.store.now) (g.S.Outside.world c.loop-at.store) (g.S.Outside.world c.first_nonzero.new.store) c.loop-at.invariant.run c.first_nonzero.ensures.run
+
+pub returns-in-Some-clause-run : goal.returns-in-Some-clause-run
+returns-in-Some-clause-run g c = reads_then 0 (g.S.Outside.world c.args.store.now) (g.S.Outside.world c.loop-at.store) (g.S.Outside.world c.first_nonzero.new.store) c.loop-at.invariant.run c.first_nonzero.ensures.run

@@ -6,8 +6,8 @@ use Rattle.odb_transdb.proofs.Bare.{side_long}
 use Rattle.odb_transdb.proofs.Opens.{gates_at}
 use Rattle.odb_transdb.proofs.opening.open_side.Goals as goal
 
-pub returns-in-Ok-clause-bytes : goal.returns-in-Ok-clause-bytes
-returns-in-Ok-clause-bytes g c = λ ok.
+pub returns-in-Ok-clause-closed : goal.returns-in-Ok-clause-closed
+returns-in-Ok-clause-closed g c = λ ok.
     let h = c.args.header.now in
     let o = file_of 0 (g.S.Outside.world c.args.store.now) in
     let end = c.side_start-start.result + c.side_size.result in

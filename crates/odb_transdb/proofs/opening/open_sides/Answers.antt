@@ -1,4 +1,4 @@
-use Rattle.std.proofs.Common.{◌≡◌, ◌≢◌, ℕ, ◌+◌, ◌-◌, ◌++◌, false, List, length, Option, Result, Ok, Err, refl, sym, ◌∙◌, ap, subst, arith}
+use Rattle.std.proofs.Common.{◌≡◌, ◌≢◌, ℕ, ◌+◌, ◌-◌, ◌++◌, false, List, length, drop, Option, Result, Ok, Err, refl, sym, ◌∙◌, ap, subst, arith}
 use Rattle.std.specs.Prelude.{IfSome}
 use Rattle.std.proofs.lemmas.Result.{err_from_is_err_and}
 use Rattle.odb_device.specs.World.{File, file_of}
@@ -7,24 +7,29 @@ use Rattle.odb_values.specs.Listed.{Listed}
 use Rattle.odb_reclog.specs.Standing.{Log}
 use Rattle.odb_model.specs.declared.entry.Entry.{Entry}
 use Rattle.odb_model.specs.State.{IsNumberedFrom}
+use Rattle.odb_model.specs.Width.{records_width}
 use Rattle.odb_transdb.specs.declared.error.TransdbError.{TransdbError}
+use Rattle.odb_transdb.specs.declared.opening.OpenedTransdb.{OpenedTransdb}
 use Rattle.odb_transdb.specs.declared.error.TransdbError.TheVariants.{Fault}
 use Rattle.odb_transdb.specs.Header.{side_start, side_end, first_on, active_first, first_held}
 use Rattle.odb_transdb.specs.Opened.{Opened, holding, opened}
-use Rattle.odb_transdb.specs.Standing.{Db}
 use Rattle.odb_transdb.specs.Answers.{IsFullAnswer, ClosesGates}
 use Rattle.odb_transdb.specs.Opening.{EndsRight, KeepsSide}
 use Rattle.odb_transdb.proofs.Opens.{gates_then}
-use Rattle.odb_transdb.proofs.Standing.{keeps_torn}
-use Rattle.odb_transdb.proofs.Begun.{IsOfPair, IsBegun, begun_first, begun_live, begun_active, based_first, low_side, whole_side, lives_on}
-use Rattle.odb_transdb.proofs.Shown.{live_still, all_numbered}
+use Rattle.odb_transdb.specs.Worlds.{OnlyClosesGates}
+use Rattle.odb_transdb.proofs.Opened.{HasHeader}
+use Rattle.odb_transdb.proofs.Gates.{gates_read, gates_live, active_same, gates_active}
+use Rattle.odb_transdb.proofs.Standing.{keeps_torn, some_first}
+use Rattle.odb_transdb.proofs.Begun.{IsOfPair, IsBegun, begun_first, begun_live, begun_active, based_first, has_first, low_side, whole_side, lives_on}
+use Rattle.odb_transdb.proofs.Headers.{lawful_is}
+use Rattle.odb_transdb.proofs.Shown.{live_still, all_numbered, active_width}
 use Rattle.odb_transdb.proofs.Finds.{refused_check, refused_live, AreOpen, HasFront, refused_rest, found_all, read_all, stands_sides, entries_sides}
 use Rattle.odb_transdb.proofs.opening.open_sides.Given.{Over}
 use Rattle.odb_transdb.proofs.opening.open_sides.Goals as goal
 use Rattle.odb_transdb.proofs.opening.open_sides.Goals.{After-check_sides, After-open_live, After-open_active, In_ok-active}
 
 of : (g : Over) (c : After-check_sides g) → IsOfPair c.args.pair c.args.header
-of g c = record { lawful = c.requires.lawful; value = c.requires.value }
+of g c = record { lawful = c.requires.found.lawful; value = c.requires.found.value }
 
 -- after the other side was looked at
 begun : (g : Over) (c : After-open_live g) (of : IsOfPair c.args.pair c.args.header) → IsBegun c.args.pair c.args.header of (g.S.Outside.world c.args.store.now) (g.S.Outside.world c.open_live.new.store)
@@ -32,20 +37,17 @@ begun g c of =
     let w = g.S.Outside.world c.args.store.now in
     let w1 = g.S.Outside.world c.check_sides.new.store in
     let reads = g.met.S.Store.reads_image c.args.store.now 0 in
-    let first = begun_first c.args.pair c.args.header of w w1 reads c.requires.kept c.requires.stands c.requires.found c.in_ok-check_sides.ensures.told c.check_sides.ensures.run in
+    let first = begun_first c.args.pair c.args.header of w w1 reads c.requires.found.kept c.requires.found.stands c.requires.found.found c.in_ok-check_sides.ensures.told c.check_sides.ensures.run in
     begun_live c.args.pair c.args.header of w w1 (g.S.Outside.world c.open_live.new.store) reads first c.open_live.ensures.live c.open_live.ensures.quiet
 
 -- a refusal that `?` hands on
-abbrev Found : Type 0
-Found = Db × List Entry
+abbrev Holding : OpenedTransdb → Opened → Type 0
+Holding found what = what ≡ holding found.transdb.header found.entries
 
-abbrev Holding : Found → Opened → Type 0
-Holding found what = what ≡ holding found.0.header found.1
-
-handed : (Q : Result Found TransdbError → Type 0) (r : Result Found TransdbError) (e : TransdbError) → r ≡ Err e → Q (Err e) → Q r
+handed : (Q : Result OpenedTransdb TransdbError → Type 0) (r : Result OpenedTransdb TransdbError) (e : TransdbError) → r ≡ Err e → Q (Err e) → Q r
 handed Q r e is q = subst Q (sym is) q
 
-abbrev Answers : Option File → Result Found TransdbError → Type 0
+abbrev Answers : Option File → Result OpenedTransdb TransdbError → Type 0
 Answers o r = IfSome o (λ f. IsFullAnswer r (opened f.bytes))
 
 pub returns-in_err-check_sides-clause-answer : goal.returns-in_err-check_sides-clause-answer
@@ -54,7 +56,7 @@ returns-in_err-check_sides-clause-answer g c =
     let e = c.in_err-check_sides.field-0.0 in
     let p = err_from_is_err_and c.from_residual.result c.from_residual.ensures.1 in
     handed (Answers o) c.from_residual.result e (p.1 ∙ ap Err p.2)
-    (refused_check Holding c.args.pair c.args.header o e (of g (goal.at.returns-in_err-check_sides-clause-answer g c).After-check_sides) c.requires.found c.in_err-check_sides.ensures.told)
+    (refused_check Holding c.args.pair c.args.header o e (of g (goal.at.returns-in_err-check_sides-clause-answer g c).After-check_sides) c.requires.found.found c.in_err-check_sides.ensures.told)
 
 pub returns-in_err-live-clause-answer : goal.returns-in_err-live-clause-answer
 returns-in_err-live-clause-answer g c =
@@ -64,7 +66,7 @@ returns-in_err-live-clause-answer g c =
     let e = c.in_err-live.field-0.0 in
     let p = err_from_is_err_and c.from_residual-in_err-live.result c.from_residual-in_err-live.ensures.1 in
     let is = of g (goal.at.returns-in_err-live-clause-answer g c).After-check_sides in
-    let based = based_first c.args.pair c.args.header is o c.requires.kept c.requires.stands c.requires.found c.in_ok-check_sides.ensures.told in
+    let based = based_first c.args.pair c.args.header is o c.requires.found.kept c.requires.found.stands c.requires.found.found c.in_ok-check_sides.ensures.told in
     handed (Answers o) c.from_residual-in_err-live.result e (p.1 ∙ ap Err p.2)
     (refused_live (λ f (found : Option Log × Listed Entry) (what : Opened). EndsRight c.args.header f.bytes) Holding c.args.pair c.args.header o (file_of 0 w1) e (run_end 0 (λ f. f ≡ o) w w1 c.check_sides.ensures.run)
     (g.met.S.Store.reads_image c.args.store.now 0) based c.in_err-live.ensures.told)
@@ -141,6 +143,56 @@ returns-in_err-active-clause-answer g c =
     (refused_rest c.args.pair c.args.header c.in_ok-live.entries.items {T = Log} (λ all _. c.open_active.new.entries.items ≡ c.in_ok-live.entries.items ++ all) Holding o
     (file_of 0 (g.S.Outside.world c.open_active.new.store)) e (front g at.After-open_active is so_far) c.in_err-active.ensures.told)
 
+-- the bytes keep the header that the pair was found to keep
+has_header : (g : Over) (c : After-open_live g) → IsOfPair c.args.pair c.args.header → IfSome (file_of 0 (g.S.Outside.world c.args.store.now)) (λ f. HasHeader c.args.header f.bytes)
+has_header g c of =
+    let o = file_of 0 (g.S.Outside.world c.args.store.now) in
+    has_first c.args.pair c.args.header of o (g.met.S.Store.reads_image c.args.store.now 0)
+    (based_first c.args.pair c.args.header of o c.requires.found.kept c.requires.found.stands c.requires.found.found c.in_ok-check_sides.ensures.told)
+
+-- the gates, after the other side was looked at
+first_gates : (g : Over) (c : After-open_live g) → IsOfPair c.args.pair c.args.header → OnlyClosesGates (g.S.Outside.world c.args.store.now) (g.S.Outside.world c.open_live.new.store)
+first_gates g c of =
+    let w = g.S.Outside.world c.args.store.now in
+    let w1 = g.S.Outside.world c.check_sides.new.store in
+    let look = c.check_sides.ensures.run in
+    gates_live c.args.header (low_side c.args.pair c.args.header of) w w1 (g.S.Outside.world c.open_live.new.store) (has_header g c of) (run_end 0 (λ f. f ≡ file_of 0 w) w w1 look) look
+    c.open_live.ensures.gate c.open_live.ensures.quiet
+
+pub returns-in_err-check_sides-clause-bytes : goal.returns-in_err-check_sides-clause-bytes
+returns-in_err-check_sides-clause-bytes g c = gates_read (g.S.Outside.world c.args.store.now) (g.S.Outside.world c.check_sides.new.store) c.check_sides.ensures.run
+
+pub returns-in_err-live-clause-bytes : goal.returns-in_err-live-clause-bytes
+returns-in_err-live-clause-bytes g c =
+    let at = goal.at.returns-in_err-live-clause-bytes g c in
+    first_gates g at.After-open_live (of g at.After-check_sides)
+
+-- whatever the active side's log answered
+both_gates : (g : Over) (c : After-open_active g) (of : IsOfPair c.args.pair c.args.header) → IsBegun c.args.pair c.args.header of (g.S.Outside.world c.args.store.now) (g.S.Outside.world c.open_live.new.store)
+    → IfSome (file_of 0 (g.S.Outside.world c.args.store.now)) (λ f. HasHeader c.args.header f.bytes) → OnlyClosesGates (g.S.Outside.world c.args.store.now) (g.S.Outside.world c.open_live.new.store)
+    → OnlyClosesGates (g.S.Outside.world c.args.store.now) (g.S.Outside.world c.open_active.new.store)
+both_gates g c of so_far has gates =
+    let h = c.args.header in
+    let w = g.S.Outside.world c.args.store.now in
+    let w1 = g.S.Outside.world c.check_sides.new.store in
+    let w2 = g.S.Outside.world c.open_live.new.store in
+    let low = low_side c.args.pair h of in
+    let look = c.check_sides.ensures.run in
+    let same = active_same h low w w1 w2 has (run_end 0 (λ f. f ≡ file_of 0 w) w w1 look) look c.requires.found.kept (g.met.S.Store.reads_image c.open_live.new.store 0) c.open_live.ensures.live c.open_live.ensures.quiet in
+    gates_active h low w w2 (g.S.Outside.world c.open_active.new.store) has (so_far.run.only.told w2.time so_far.run.only.later (omega arith)) same gates c.open_active.ensures.gate
+
+pub returns-in_err-active-clause-bytes : goal.returns-in_err-active-clause-bytes
+returns-in_err-active-clause-bytes g c =
+    let at = goal.at.returns-in_err-active-clause-bytes g c in
+    let is = of g at.After-check_sides in
+    both_gates g at.After-open_active is (begun g at.After-open_live is) (has_header g at.After-open_live is) (first_gates g at.After-open_live is)
+
+pub returns-clause-bytes : goal.returns-clause-bytes
+returns-clause-bytes g c =
+    let at = goal.at.returns-clause-bytes g c in
+    let is = of g at.After-check_sides in
+    both_gates g at.After-open_active is (begun g at.After-open_live is) (has_header g at.After-open_live is) (first_gates g at.After-open_live is)
+
 -- the bytes, where the active side's log had no fault
 bytes : (g : Over) (c : After-open_active g) (of : IsOfPair c.args.pair c.args.header) → IsBegun c.args.pair c.args.header of (g.S.Outside.world c.args.store.now) (g.S.Outside.world c.open_live.new.store)
     → c.open_active.result ≢ Err Fault → ClosesGates (file_of 0 (g.S.Outside.world c.args.store.now)) (file_of 0 (g.S.Outside.world c.open_active.new.store))
@@ -151,13 +203,13 @@ bytes g c of so_far whole =
     let w3 = g.S.Outside.world c.open_active.new.store in
     let first : ClosesGates (file_of 0 w) (file_of 0 w2) =
     subst (λ (o : Option File). ClosesGates o (file_of 0 w2)) (run_end 0 (λ f. f ≡ file_of 0 w) w w1 c.check_sides.ensures.run)
-    (c.in_ok-live.ensures.bytes (λ (e : Ok (c.in_ok-live.live, c.in_ok-live.entries) ≡ Err Fault). absurd (cc e))) in
+    (c.in_ok-live.ensures.closed (λ (e : Ok (c.in_ok-live.live, c.in_ok-live.entries) ≡ Err Fault). absurd (cc e))) in
     let told = so_far.run.only.told w2.time so_far.run.only.later (omega arith) in
-    gates_then (file_of 0 w) (file_of 0 w2) (file_of 0 w3) told first (c.open_active.ensures.bytes whole)
+    gates_then (file_of 0 w) (file_of 0 w2) (file_of 0 w3) told first (c.open_active.ensures.closed whole)
 
-pub returns-in_err-active-clause-bytes : goal.returns-in_err-active-clause-bytes
-returns-in_err-active-clause-bytes g c = λ other.
-    let at = goal.at.returns-in_err-active-clause-bytes g c in
+pub returns-in_err-active-clause-closed : goal.returns-in_err-active-clause-closed
+returns-in_err-active-clause-closed g c = λ other.
+    let at = goal.at.returns-in_err-active-clause-closed g c in
     let is = of g at.After-check_sides in
     let p = err_from_is_err_and c.from_residual-in_err-active.result c.from_residual-in_err-active.ensures.1 in
     bytes g at.After-open_active is (begun g at.After-open_live is)
@@ -165,9 +217,9 @@ returns-in_err-active-clause-bytes g c = λ other.
     let fault : c.in_err-active.field-0.0 ≡ Fault = cc (c.in_err-active.was, same) in
     other (p.1 ∙ ap Err (p.2 ∙ fault)))
 
-pub returns-clause-bytes : goal.returns-clause-bytes
-returns-clause-bytes g c = λ _.
-    let at = goal.at.returns-clause-bytes g c in
+pub returns-clause-closed : goal.returns-clause-closed
+returns-clause-closed g c = λ _.
+    let at = goal.at.returns-clause-closed g c in
     let is = of g at.After-check_sides in
     bytes g at.After-open_active is (begun g at.After-open_live is) (λ (same : c.open_active.result ≡ Err Fault). absurd (cc (c.in_ok-active.was, same)))
 
@@ -202,18 +254,6 @@ returns-clause-answer g c =
     subst (λ (l : List Entry). IfSome o (λ f. opened f.bytes ≡ holding h l)) (sym c.new.ensures)
     (found_all c.args.pair h c.in_ok-live.entries.items c.open_active.new.entries.items o now (front g at.After-open_active is so_far) c.in_ok-active.ensures.told)
 
-pub returns-clause-stands : goal.returns-clause-stands
-returns-clause-stands g c =
-    let at = goal.at.returns-clause-stands g c in
-    let is = of g at.After-check_sides in
-    let so_far = further g at.After-open_active is (begun g at.After-open_live is) in
-    let o = file_of 0 (g.S.Outside.world c.args.store.now) in
-    let now = file_of 0 (g.S.Outside.world c.open_active.new.store) in
-    let fronted = front g at.After-open_active is so_far in
-    let items = c.in_ok-live.entries.items in
-    stands_sides c.args.pair c.args.header c.in_ok-live.live c.in_ok-active.active o now (are g at.In_ok-active is so_far)
-    (read_all c.args.pair c.args.header items c.open_active.new.entries.items o now fronted c.in_ok-active.ensures.told)
-
 pub returns-clause-entries : goal.returns-clause-entries
 returns-clause-entries g c =
     let at = goal.at.returns-clause-entries g c in
@@ -222,10 +262,29 @@ returns-clause-entries g c =
     entries_sides c.args.pair c.args.header c.in_ok-live.live c.in_ok-active.active (file_of 0 (g.S.Outside.world c.args.store.now)) (file_of 0 (g.S.Outside.world c.open_active.new.store))
     (are g at.In_ok-active is so_far)
 
-pub returns-clause-numbers : goal.returns-clause-numbers
-returns-clause-numbers g c =
+pub returns-clause-opened : goal.returns-clause-opened
+returns-clause-opened g c =
+    let at = goal.at.returns-clause-opened g c in
+    let is = of g at.After-check_sides in
+    let so_far = further g at.After-open_active is (begun g at.After-open_live is) in
+    let h = c.args.header in
+    let o = file_of 0 (g.S.Outside.world c.args.store.now) in
+    let now = file_of 0 (g.S.Outside.world c.open_active.new.store) in
+    let items = c.in_ok-live.entries.items in
+    let all = c.open_active.new.entries.items in
     let active = c.in_ok-active.active in
+    let first = active_first h in
+    let held = first_held h in
     let numbers = c.in_ok-live.ensures.numbers in
-    subst (λ (l : List Entry). IsNumberedFrom (first_held c.args.header) l × (first_held c.args.header + length l ≡ active.next)) (sym c.new.ensures)
-    (all_numbered (first_held c.args.header) (active_first c.args.header) active.next (active.place - active.start) c.in_ok-live.entries.items c.open_active.new.entries.items numbers.0 numbers.1
-    c.in_ok-active.ensures.least.0 c.in_ok-active.ensures.part)
+    let part = c.in_ok-active.ensures.part in
+    let least = c.in_ok-active.ensures.least in
+    record {
+      stands = stands_sides c.args.pair h c.in_ok-live.live active o now (are g at.In_ok-active is so_far)
+          (read_all c.args.pair h items all o now (front g at.After-open_active is so_far) c.in_ok-active.ensures.told);
+      usable = c.in_ok-active.ensures.usable;
+      numbers = subst (λ (l : List Entry). IsNumberedFrom held l × (held + length l ≡ active.next)) (sym c.new.ensures)
+          (all_numbered held first active.next (active.place - active.start) items all numbers.0 numbers.1 least.0 part);
+      width = subst (λ (l : List Entry). records_width (drop (first - held) l) ≡ active.place - active.start) (sym c.new.ensures)
+          (active_width held first active.next (active.place - active.start) items all numbers.1 part);
+      placed = record { side = c.in_ok-active.ensures.side; place = least.1; from = least.0; some = some_first h h.active (lawful_is h c.requires.found.lawful) };
+    }

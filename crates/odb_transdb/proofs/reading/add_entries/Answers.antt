@@ -5,6 +5,8 @@ use Rattle.std.proofs.lemmas.Bool.{leb-true, leb-false}
 use Rattle.std.proofs.lemmas.List.{append-nil, drop_all}
 use Rattle.odb_device.specs.World.{File, file_of}
 use Rattle.odb_device.specs.Images.{ReadsImage}
+use Rattle.odb_device.proofs.Time.{reads_then}
+use Rattle.odb_reclog.specs.Standing.{Stands as LogStands}
 use Rattle.odb_reclog.specs.Records.{log_of, IsPlaceIn, record_in}
 use Rattle.odb_model.specs.declared.entry.Entry.{Entry}
 use Rattle.odb_transdb.specs.declared.error.TransdbError.{TransdbError}
@@ -20,16 +22,23 @@ loop-at-init g c =
     (c.new-window.ensures (file_of c.args.log.now.file (g.S.Outside.world c.args.store.now)))
 
 -- what the record's call says of the file as it was at first
-pub record_at-requires-clause-place : goal.record_at-requires-clause-place
-record_at-requires-clause-place g c =
+pub record_at-requires-clause-readable : goal.record_at-requires-clause-readable
+record_at-requires-clause-readable g c =
     let log = c.args.log.now in
     let w = g.S.Outside.world c.args.store.now in
     let mid = g.S.Outside.world c.loop-at.store in
     let reads : ReadsImage (file_of log.file w) = g.met.S.Store.reads_image c.args.store.now log.file in
     let base = c.args.entries.now.items in
-    subst (λ (o : Option File). IfSome o (λ f. IsPlaceIn log.start (log_of log.start log.end log.first f.bytes) c.loop-at.at))
-    (sym (walked_file log c.args.from base w mid c.loop-at.window c.loop-at.at c.loop-at.number c.loop-at.entries.items c.loop-at.invariant c.requires.stands reads))
-    (walked_place log c.args.from base w mid c.loop-at.window c.loop-at.at c.loop-at.number c.loop-at.entries.items c.loop-at.invariant c.requires.stands reads)
+    let same = sym (walked_file log c.args.from base w mid c.loop-at.window c.loop-at.at c.loop-at.number c.loop-at.entries.items c.loop-at.invariant c.requires.stands reads) in
+    record {
+      usable = c.requires.usable;
+      stands = subst (LogStands log) same c.requires.stands;
+      low = c.loop-at.invariant.low;
+      high = omega (arith, c.loop-at-test.true, c.place-end.ensures.value);
+      place =
+          subst (λ (o : Option File). IfSome o (λ f. IsPlaceIn log.start (log_of log.start log.end log.first f.bytes) c.loop-at.at)) same
+          (walked_place log c.args.from base w mid c.loop-at.window c.loop-at.at c.loop-at.number c.loop-at.entries.items c.loop-at.invariant c.requires.stands reads);
+    }
 
 pub returns-in_err-record-clause-told : goal.returns-in_err-record-clause-told
 returns-in_err-record-clause-told g c =
@@ -143,3 +152,12 @@ returns-clause-some g c =
     let w = g.S.Outside.world c.args.store.now in
     walked_some log c.args.from c.args.entries.now.items w (g.S.Outside.world c.loop-at.store) c.loop-at.window c.loop-at.at c.loop-at.number c.loop-at.entries.items c.loop-at.invariant c.requires.stands
     (g.met.S.Store.reads_image c.args.store.now log.file) c.loop-at.entries.items refl
+
+pub returns-in_err-record-clause-run : goal.returns-in_err-record-clause-run
+returns-in_err-record-clause-run g c = reads_then c.args.log.now.file (g.S.Outside.world c.args.store.now) (g.S.Outside.world c.loop-at.store) (g.S.Outside.world c.record_at.new.store) c.loop-at.invariant.run c.record_at.ensures.run
+
+pub returns-in_err-entry-clause-run : goal.returns-in_err-entry-clause-run
+returns-in_err-entry-clause-run g c = reads_then c.args.log.now.file (g.S.Outside.world c.args.store.now) (g.S.Outside.world c.loop-at.store) (g.S.Outside.world c.record_at.new.store) c.loop-at.invariant.run c.record_at.ensures.run
+
+pub returns-in_err-add_entry-clause-run : goal.returns-in_err-add_entry-clause-run
+returns-in_err-add_entry-clause-run g c = reads_then c.args.log.now.file (g.S.Outside.world c.args.store.now) (g.S.Outside.world c.loop-at.store) (g.S.Outside.world c.record_at.new.store) c.loop-at.invariant.run c.record_at.ensures.run

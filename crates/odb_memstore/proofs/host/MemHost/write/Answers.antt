@@ -7,7 +7,7 @@ use Rattle.odb_memstore.specs.Tape.{Tape}
 use Rattle.odb_memstore.specs.Recording.{Recording, is_full, is_listed, fails, asked, noted}
 use Rattle.odb_memstore.specs.Calls.{is_past_write, total_with}
 use Rattle.odb_memstore.specs.Standing.{Stands}
-use Rattle.odb_memstore.proofs.Standings.{total_with_is, asked_noted, stands_failed, stands_written}
+use Rattle.odb_memstore.proofs.Standings.{total_with_is, asked_noted, stands_failed, stands_past, stands_written}
 use Rattle.odb_memstore.proofs.host.MemHost.write.Goals as goal
 use Rattle.odb_memstore.proofs.host.MemHost.write.Goals.{After-ask}
 
@@ -29,6 +29,12 @@ next c =
     ∙ asked_noted (Write c.args.file c.args.at (length c.self.inside.pieces.items) (length c.args.bytes.now)) c.self.inside.recorder (left c) in
     ap (λ (q : Recording). let t : Tape = record tape { recording = q; pieces = c.add.new.to.items } in t) r
     ∙ ap (λ (l : List ℕ). let t : Tape = record tape { recording = noted (Write c.args.file c.args.at (length c.self.inside.pieces.items) (length c.args.bytes.now)) c.self.inside.recorder; pieces = l } in t) c.add.ensures.bytes
+
+pub invariant_of-self : goal.invariant_of-self
+invariant_of-self c =
+    let h = c.self.inside in
+    subst (λ (r : Recording). Stands h.current (vec_capacity h.pieces) (vec_capacity h.said) (record (tape_of h) { recording = r })) (sym c.note_past_write.ensures)
+    (stands_past h.current (vec_capacity h.pieces) (vec_capacity h.said) (tape_of h) c.self.invariant c.args.file)
 
 pub invariant_of-self-then-not-ask : goal.invariant_of-self-then-not-ask
 invariant_of-self-then-not-ask c =

@@ -1,7 +1,9 @@
 use Rattle.std.proofs.Common.{◌≡◌, [], ◌∷◌, refl, arith, rules, length, replicate}
 use Rattle.odb_device.specs.World.{file_of}
 use Rattle.odb_device.specs.Images.{EachImage, TornFrom}
+use Rattle.odb_device.specs.Calls.{FileCountRose}
 use Rattle.odb_device.specs.Moments.{Runs}
+use Rattle.odb_device.proofs.Time.{changes_then, rose_behind, on_err}
 use Rattle.odb_device.proofs.Puts.{put_done}
 use Rattle.odb_device.proofs.Torn.{each_weakens}
 use Rattle.odb_pair.specs.Places.{OPEN, Holds}
@@ -66,3 +68,13 @@ pub returns-clause-holds : goal.returns-clause-holds
 returns-clause-holds g c =
     let pair = formatted c.args.file c.args.value.now in
     each_weakens (StandsFor pair) (Holds c.args.value.now) (file_of c.args.file (g.S.Outside.world c.write_synced-3.new.store)) (λ i h. opens_settled pair i refl h) (fresh g c)
+
+pub returns-in_err-write_synced-3-clause-cause : goal.returns-in_err-write_synced-3-clause-cause
+returns-in_err-write_synced-3-clause-cause g c =
+    let f = c.args.file in
+    let w = g.S.Outside.world c.args.store.now in
+    let w1 = g.S.Outside.world c.write_synced.new.store in
+    let w2 = g.S.Outside.world c.write_synced-2.new.store in
+    let w3 = g.S.Outside.world c.write_synced-3.new.store in
+    on_err (FileCountRose f w w3) c.from_residual-in_err-write_synced-3.result
+    (rose_behind f f w w2 w3 (changes_then f w w1 w2 c.write_synced.ensures.run.only c.write_synced-2.ensures.run.only) c.in_err-write_synced-3.ensures.cause)

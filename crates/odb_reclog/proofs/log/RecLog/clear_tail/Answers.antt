@@ -1,4 +1,4 @@
-use Rattle.std.proofs.Common.{◌≡◌, ◌+◌, ◌-◌, ◌<◌, ◌≤◌, Bool, true, false, Some, length, sym, ap, subst, arith}
+use Rattle.std.proofs.Common.{◌≡◌, ◌+◌, ◌-◌, ◌<◌, ◌≤◌, Bool, true, false, Some, length, sym, ap, subst, arith, rules}
 use Rattle.std.specs.Prelude.{IfSome}
 use Rattle.odb_device.specs.World.{File, World, file_of}
 use Rattle.odb_device.specs.Images.{ReadsImage, TornFrom, IsKept}
@@ -60,20 +60,19 @@ module _ (g : Over) (c : After-clear_range g) where
   abbrev IsOnDisk : Log → Type 0
   IsOnDisk l = touched ≡ true → IsKept (file_of l.file now)
 
-pub returns-in_err-clear_range-clause-run : goal.returns-in_err-clear_range-clause-run
-returns-in_err-clear_range-clause-run g c = left_run g (goal.at.returns-in_err-clear_range-clause-run g c).After-clear_range
-
-pub returns-in_err-clear_range-clause-stands : goal.returns-in_err-clear_range-clause-stands
-returns-in_err-clear_range-clause-stands g c =
-    let a = (goal.at.returns-in_err-clear_range-clause-stands g c).After-clear_range in
-    subst (λ (l : Log). Stands (half_log l (touched g a)) (file_of (log g a).file (now g a))) (sym c.self.view_is)
-    (half_stands (log g a) (w g a) (now g a) (touched g a) c.requires.stands (is_log g a) (some g a) (run g a) (untouched g a) (reads g a))
-
-pub returns-in_err-clear_range-clause-list : goal.returns-in_err-clear_range-clause-list
-returns-in_err-clear_range-clause-list g c =
-    let a = (goal.at.returns-in_err-clear_range-clause-list g c).After-clear_range in
-    subst (λ (l : Log). list_of (half_log l (touched g a)) (file_of (log g a).file (now g a)) ≡ list_of (log g a) (file_of (log g a).file (w g a))) (sym c.self.view_is)
-    (half_list (log g a) (w g a) (now g a) (touched g a) c.requires.stands (is_log g a) (some g a) (run g a) (untouched g a) (reads g a))
+pub returns-in_err-clear_range-clause-behind : goal.returns-in_err-clear_range-clause-behind
+returns-in_err-clear_range-clause-behind g c =
+    let a = (goal.at.returns-in_err-clear_range-clause-behind g c).After-clear_range in
+    record {
+      run = left_run g a;
+      stands =
+          subst (λ (l : Log). Stands (half_log l (touched g a)) (file_of (log g a).file (now g a))) (sym c.self.view_is)
+          (half_stands (log g a) (w g a) (now g a) (touched g a) c.requires.stands (is_log g a) (some g a) (run g a) (untouched g a) (reads g a));
+      list =
+          subst (λ (l : Log). list_of (half_log l (touched g a)) (file_of (log g a).file (now g a)) ≡ list_of (log g a) (file_of (log g a).file (w g a))) (sym c.self.view_is)
+          (half_list (log g a) (w g a) (now g a) (touched g a) c.requires.stands (is_log g a) (some g a) (run g a) (untouched g a) (reads g a));
+      same = search rules;
+    }
 
 pub returns-in_err-clear_range-clause-unwritten : goal.returns-in_err-clear_range-clause-unwritten
 returns-in_err-clear_range-clause-unwritten g c = left_unwritten g (goal.at.returns-in_err-clear_range-clause-unwritten g c).After-clear_range
@@ -81,24 +80,22 @@ returns-in_err-clear_range-clause-unwritten g c = left_unwritten g (goal.at.retu
 pub returns-in_err-clear_range-clause-untouched : goal.returns-in_err-clear_range-clause-untouched
 returns-in_err-clear_range-clause-untouched g c = left_untouched g (goal.at.returns-in_err-clear_range-clause-untouched g c).After-clear_range
 
-pub returns-clause-run : goal.returns-clause-run
-returns-clause-run g c = left_run g (goal.at.returns-clause-run g c).After-clear_range
-
-pub returns-clause-stands : goal.returns-clause-stands
-returns-clause-stands g c =
-    let a = (goal.at.returns-clause-stands g c).After-clear_range in
+pub returns-clause-behind : goal.returns-clause-behind
+returns-clause-behind g c =
+    let a = (goal.at.returns-clause-behind g c).After-clear_range in
     let ok = c.in_ok-clear_range.ensures in
-    subst (λ (l : Log). Stands (cleared_log l) (file_of (log g a).file (now g a))) (sym c.self.view_is)
-    (cleared_stands (log g a) (w g a) (now g a) (touched g a) c.requires.stands (is_log g a) (some g a) (run g a) (untouched g a) (reads g a)
-    (subst (IsZero g a) c.self.view_is ok.zero) (subst (IsOnDisk g a) c.self.view_is ok.on_disk))
-
-pub returns-clause-list : goal.returns-clause-list
-returns-clause-list g c =
-    let a = (goal.at.returns-clause-list g c).After-clear_range in
-    let ok = c.in_ok-clear_range.ensures in
-    subst (λ (l : Log). list_of (cleared_log l) (file_of (log g a).file (now g a)) ≡ list_of (log g a) (file_of (log g a).file (w g a))) (sym c.self.view_is)
-    (cleared_list (log g a) (w g a) (now g a) (touched g a) c.requires.stands (is_log g a) (some g a) (run g a) (untouched g a) (reads g a)
-    (subst (IsZero g a) c.self.view_is ok.zero) (subst (IsOnDisk g a) c.self.view_is ok.on_disk))
+    record {
+      run = left_run g a;
+      stands =
+          subst (λ (l : Log). Stands (cleared_log l) (file_of (log g a).file (now g a))) (sym c.self.view_is)
+          (cleared_stands (log g a) (w g a) (now g a) (touched g a) c.requires.stands (is_log g a) (some g a) (run g a) (untouched g a) (reads g a)
+          (subst (IsZero g a) c.self.view_is ok.zero) (subst (IsOnDisk g a) c.self.view_is ok.on_disk));
+      list =
+          subst (λ (l : Log). list_of (cleared_log l) (file_of (log g a).file (now g a)) ≡ list_of (log g a) (file_of (log g a).file (w g a))) (sym c.self.view_is)
+          (cleared_list (log g a) (w g a) (now g a) (touched g a) c.requires.stands (is_log g a) (some g a) (run g a) (untouched g a) (reads g a)
+          (subst (IsZero g a) c.self.view_is ok.zero) (subst (IsOnDisk g a) c.self.view_is ok.on_disk));
+      same = search rules;
+    }
 
 pub returns-clause-unwritten : goal.returns-clause-unwritten
 returns-clause-unwritten g c = left_unwritten g (goal.at.returns-clause-unwritten g c).After-clear_range

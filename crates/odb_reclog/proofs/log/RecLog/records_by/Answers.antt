@@ -9,6 +9,8 @@ use Rattle.odb_reclog.specs.Reading.{head_at}
 use Rattle.odb_reclog.specs.Standing.{Log}
 use Rattle.odb_reclog.specs.contracts.log.RecLog.{the_view}
 use Rattle.odb_reclog.proofs.Recorded.{IsRecordIn, IsAsked, Fits, IsInOrder, none_near_end, in_order, head_by_window, order_kept, record_found, next_found}
+use Rattle.odb_device.proofs.Time.{reads_then}
+use Rattle.odb_reclog.specs.Told.{OnlyReads}
 use Rattle.odb_reclog.proofs.log.RecLog.records_by.Given.{Over}
 use Rattle.odb_reclog.proofs.log.RecLog.records_by.Goals as goal
 use Rattle.odb_reclog.proofs.log.RecLog.records_by.Goals.{After-self, After-end_from-next}
@@ -20,10 +22,10 @@ asked : (g : Over) (c : After-self g)
 asked g c =
     subst (λ (l : Log). IsAsked l c.args.at (file_of l.file (g.S.Outside.world c.args.store.now))) (sym c.self.view_is)
     (record {
-      stands = c.requires.stands;
+      stands = c.requires.readable.stands;
       reads = g.met.S.Store.reads_image c.args.store.now c.args.self.now.file;
-      place = c.requires.place;
-      before = c.requires.within.1;
+      place = c.requires.readable.place;
+      before = c.requires.readable.high;
     })
 
 pub returns-then-self-at-lt-HEAD-clause-record : goal.returns-then-self-at-lt-HEAD-clause-record
@@ -98,3 +100,21 @@ returns-in-Some-2-clause-next g c =
     c.self.view_is
     (next_found log c.args.at o head c.end_from-next.result (order g at.After-end_from-next a)
     (head_read g at.After-end_from-next a) c.end_from-next.ensures)
+
+pub returns-in_err-payload-clause-run : goal.returns-in_err-payload-clause-run
+returns-in_err-payload-clause-run g c =
+    let w = g.S.Outside.world c.args.store.now in
+    let now = g.S.Outside.world c.bytes.new.store in
+    subst (λ (l : Log). OnlyReads l.file w now) c.self.view_is (reads_then c.self.inside.file w (g.S.Outside.world c.head.new.store) now c.head.ensures.run c.bytes.ensures.run)
+
+pub returns-in-Some-2-clause-run : goal.returns-in-Some-2-clause-run
+returns-in-Some-2-clause-run g c =
+    let w = g.S.Outside.world c.args.store.now in
+    let now = g.S.Outside.world c.bytes.new.store in
+    subst (λ (l : Log). OnlyReads l.file w now) c.self.view_is (reads_then c.self.inside.file w (g.S.Outside.world c.head.new.store) now c.head.ensures.run c.bytes.ensures.run)
+
+pub returns-in-None-clause-run : goal.returns-in-None-clause-run
+returns-in-None-clause-run g c =
+    let w = g.S.Outside.world c.args.store.now in
+    let now = g.S.Outside.world c.bytes.new.store in
+    subst (λ (l : Log). OnlyReads l.file w now) c.self.view_is (reads_then c.self.inside.file w (g.S.Outside.world c.head.new.store) now c.head.ensures.run c.bytes.ensures.run)

@@ -1,4 +1,4 @@
-use Rattle.std.proofs.Common.{◌≡◌, ◌+◌, ◌-◌, ◌^◌, ◌<◌, ◌≤◌, ℕ, Bool, true, false, List, length, refl, sym, ap, subst, arith}
+use Rattle.std.proofs.Common.{◌≡◌, ◌+◌, ◌-◌, ◌^◌, ◌<◌, ◌≤◌, ℕ, Bool, true, false, List, length, refl, sym, ap, subst, arith, rules}
 use Rattle.std.specs.Prelude.{IfSome, option_map}
 use Rattle.std.specs.Int.{w64, to_be_bytes}
 use Rattle.odb_device.specs.World.{World, file_of}
@@ -9,6 +9,8 @@ use Rattle.odb_reclog.specs.contracts.log.RecLog.{the_view}
 use Rattle.odb_reclog.specs.Records.{payload_at}
 use Rattle.odb_reclog.specs.Standing.{Log, IsLog, Stands, HasBody, HasItsBody, list_of}
 use Rattle.odb_reclog.proofs.Standing.{touched_log, is_touched, body_written}
+use Rattle.odb_device.proofs.Time.{begins}
+use Rattle.odb_reclog.proofs.Gates.{keeps_same}
 use Rattle.odb_reclog.proofs.Files.{behind_run, behind_stands, behind_list, has_body, reads_body}
 use Rattle.odb_reclog.proofs.log.RecLog.write_body.Given.{Over}
 use Rattle.odb_reclog.proofs.log.RecLog.write_body.Goals.{After-put_body}
@@ -70,34 +72,43 @@ module _ (g : Over) (c : After-put_body g) where
   abbrev IsDone : Log → Type 0
   IsDone l = file_of l.file now ≡ option_map (λ f. kept (written (l.place + 13) c.args.payload.now (written (l.place + 1) c.head_of-head.result f))) (file_of l.file w)
 
-pub returns-in_err-put_body-clause-run : goal.returns-in_err-put_body-clause-run
-returns-in_err-put_body-clause-run g c = left_run g (goal.at.returns-in_err-put_body-clause-run g c).After-put_body
+-- without room nothing changes
+pub returns-then-room-need-clause-behind : goal.returns-then-room-need-clause-behind
+returns-then-room-need-clause-behind g c =
+    let log = c.args.self.now in
+    let w = g.S.Outside.world c.args.store.now in
+    let o = file_of log.file w in
+    let at = log.place + 1 in
+    record {
+      run = begins log.file (KeepsLists log.start log.end log.first at (log.end - at) o) w (keeps_same log.start log.end log.first at (log.end - at) o o refl);
+      stands = c.requires.stands;
+      list = refl;
+      same = record { file = refl; start = refl; end = refl; first = refl; place = refl; next = refl; in_doubt = refl };
+    }
 
-pub returns-in_err-put_body-clause-stands : goal.returns-in_err-put_body-clause-stands
-returns-in_err-put_body-clause-stands g c = left_stands g (goal.at.returns-in_err-put_body-clause-stands g c).After-put_body false
+pub returns-in_err-put_body-clause-behind : goal.returns-in_err-put_body-clause-behind
+returns-in_err-put_body-clause-behind g c =
+    let a = (goal.at.returns-in_err-put_body-clause-behind g c).After-put_body in
+    record { run = left_run g a; stands = left_stands g a false; list = left_list g a false; same = search rules }
 
-pub returns-in_err-put_body-clause-list : goal.returns-in_err-put_body-clause-list
-returns-in_err-put_body-clause-list g c = left_list g (goal.at.returns-in_err-put_body-clause-list g c).After-put_body false
-
-pub returns-clause-run : goal.returns-clause-run
-returns-clause-run g c = left_run g (goal.at.returns-clause-run g c).After-put_body
-
-pub returns-clause-stands : goal.returns-clause-stands
-returns-clause-stands g c = left_stands g (goal.at.returns-clause-stands g c).After-put_body true
-
-pub returns-clause-list : goal.returns-clause-list
-returns-clause-list g c = left_list g (goal.at.returns-clause-list g c).After-put_body true
+pub returns-clause-behind : goal.returns-clause-behind
+returns-clause-behind g c =
+    let a = (goal.at.returns-clause-behind g c).After-put_body in
+    record { run = left_run g a; stands = left_stands g a true; list = left_list g a true; same = search rules }
 
 pub returns-clause-written : goal.returns-clause-written
 returns-clause-written g c =
-    let a = (goal.at.returns-clause-written g c).After-put_body in (
-      refl,
-      subst (λ (l : Log). HasItsBody (new g a true l) (file_of (log g a).file (now g a))) (sym c.self.view_is)
-          (has_body (new g a true (log g a)) c.head_of-head.result c.args.payload.now (file_of (log g a).file (w g a)) (file_of (log g a).file (now g a)) (subst (IsDone g a) c.self.view_is c.in_ok-put_body.ensures.done) (body g a)),
-    )
-
-pub returns-clause-payload : goal.returns-clause-payload
-returns-clause-payload g c =
-    let a = (goal.at.returns-clause-payload g c).After-put_body in
-    subst (λ (l : Log). IfSome (file_of (log g a).file (now g a)) (λ f. payload_at l.place f.bytes ≡ c.args.payload.now)) (sym c.self.view_is)
-    (reads_body (new g a true (log g a)) c.head_of-head.result c.args.payload.now (file_of (log g a).file (w g a)) (file_of (log g a).file (now g a)) (subst (IsDone g a) c.self.view_is c.in_ok-put_body.ensures.done) (body g a))
+    let a = (goal.at.returns-clause-written g c).After-put_body in
+    let before = file_of (log g a).file (w g a) in
+    let after = file_of (log g a).file (now g a) in
+    let done = subst (IsDone g a) c.self.view_is c.in_ok-put_body.ensures.done in
+    record {
+      has_body = refl;
+      body =
+          subst (λ (l : Log). HasItsBody (new g a true l) after) (sym c.self.view_is)
+          (has_body (new g a true (log g a)) c.head_of-head.result c.args.payload.now before after done (body g a));
+      payload_is =
+          subst (λ (l : Log). IfSome after (λ f. payload_at l.place f.bytes ≡ c.args.payload.now)) (sym c.self.view_is)
+          (reads_body (new g a true (log g a)) c.head_of-head.result c.args.payload.now before after done (body g a));
+      behind = omega (arith, ap (λ (l : Log). l.place) c.self.view_is);
+    }

@@ -18,4 +18,4 @@ returns-in-Some-clause-step g c = λ m stands.
     follows_built c.args.self.now m c.args.session c.args.statement.now c.run.result c.run.new.self (g.H.Outside.world c.args.host.now) (g.H.Outside.world c.run.new.host)
     c.requires.session stands built
     (subst (λ (st : Statement). HeldRuns c.args.self.now (c.args.session - 1) st c.run.result c.run.new.self) (sym c.in-Some.ensures.form) c.run.ensures.step)
-    c.run.ensures.room (rose_of_cause c.args.self.now c.run.result c.run.new.self (g.H.Outside.world c.args.host.now) (g.H.Outside.world c.run.new.host) c.run.ensures.cause)
+    (rose_of_cause c.args.self.now c.run.result c.run.new.self (g.H.Outside.world c.args.host.now) (g.H.Outside.world c.run.new.host) c.run.ensures.cause)

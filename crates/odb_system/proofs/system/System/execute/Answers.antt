@@ -21,13 +21,13 @@ module _ (c : goal.Else-is_err) where
   is_grown : c.grow.new.self ≡ grown held (statement_of c.args.form) c.in-Some.transaction
   unfolding held
   is_grown =
-      grown_is held (statement_of c.args.form) c.in-Some.transaction c.grow.new.self c.as_slice-history.result.now c.write_set.result.now c.len-number.result c.in-Ok.outcome
-      c.as_slice-history.ensures c.write_set.ensures c.len-number.ensures c.in-Ok.ensures.reads c.in-Ok.ensures.writes grew
+      grown_is held (statement_of c.args.form) c.in-Some.transaction c.grow.new.self c.as_slice-history.result.now c.write_set.result.now c.len-number.result c.format-format.result c.in-Ok.outcome
+      c.as_slice-history.ensures c.write_set.ensures c.len-number.ensures c.format-format.ensures c.in-Ok.ensures.reads c.in-Ok.ensures.writes grew
 
   stored : AreStorable (grown held (statement_of c.args.form) c.in-Some.transaction).write_set
   unfolding held
   stored =
-      more_stored (statement_of c.args.form) (after_writes (replay held.history) c.in-Some.transaction.write_set) c.in-Some.transaction.write_set (built_of c.args.form)
+      more_stored (statement_of c.args.form) (after_writes (replay held.history) c.in-Some.transaction.write_set) c.in-Some.transaction.write_set held.transdb.header.format (built_of c.args.form)
       (subst IsOpen c.in-Some.is (open_here held c.args.at c.index_mut.result.now c.self.invariant c.requires c.index_mut.ensures.value))
 
 pub invariant_of-self-2 : goal.invariant_of-self-2
@@ -44,7 +44,7 @@ returns c =
     session_here c.self.inside.sessions.items c.args.at c.index_mut.result.now within c.index_mut.ensures.value ∙ c.in-Some.is in
     let after : Held = with_open (held c) c.args.at (Some c.grow.new.self) in
     let meant : c.in-Ok.outcome.reply ≡ (meaning_in (held c) st t).reply =
-    reply_is (held c) st t c.as_slice-history.result.now c.write_set.result.now c.in-Ok.outcome.reply c.as_slice-history.ensures c.write_set.ensures c.in-Ok.ensures.reply in
+    reply_is (held c) st t c.as_slice-history.result.now c.write_set.result.now c.format-format.result c.in-Ok.outcome.reply c.as_slice-history.ensures c.write_set.ensures c.format-format.ensures c.in-Ok.ensures.reply in
     let step : HeldExecutes (held c) c.args.at st (Some t) c.in-Ok.outcome.reply after =
     executed (held c) c.args.at st t c.in-Ok.outcome.reply after meant (ap (λ (x : Open). with_open (held c) c.args.at (Some x)) (is_grown c)) in
     subst (λ (h : Held). HeldExecutes h c.args.at st (session_at h c.args.at) c.in-Ok.outcome.reply after) c.self.view_is

@@ -1,22 +1,23 @@
-use Rattle.std.proofs.Common.{◌≡◌, false, true, Ok, sym, ◌∙◌, subst}
-use Rattle.std.specs.Prelude.{IfSome, is_err}
+use Rattle.std.proofs.Common.{◌≡◌, ◌<◌, false, Ok, refl, sym, ap, ◌∙◌, subst, arith}
+use Rattle.std.specs.Prelude.{is_err}
 use Rattle.odb_device.specs.World.{World, file_of}
-use Rattle.odb_reclog.specs.Records.{payload_at}
-use Rattle.odb_reclog.specs.Standing.{HasItsBody}
+use Rattle.odb_device.specs.Calls.{FileCountRose}
 use Rattle.odb_codec.specs.Reading.{read_entry}
 use Rattle.odb_device.specs.Moments.{Runs}
 use Rattle.odb_model.specs.declared.entry.Entry.{Entry}
 use Rattle.odb_transdb.specs.Opened.{entries_in}
 use Rattle.odb_transdb.specs.Steps.{IsWritten}
 use Rattle.odb_transdb.specs.Answers.{HoldsAllOrMore}
+use Rattle.odb_transdb.specs.Worlds.{IsRecorded, WritesFromGate}
 use Rattle.odb_transdb.specs.Standing.{Db, IsDb, IsPlaced}
 use Rattle.odb_transdb.specs.declared.transdb.Transdb.TheInside.{Inside}
 use Rattle.odb_transdb.specs.contracts.transdb.Transdb.{the_view}
 use Rattle.odb_transdb.proofs.Standing.{is_placed}
-use Rattle.odb_transdb.proofs.Forced.{entry_read, is_written, forced_run, forced_entries, forced_doubt, ok_of}
+use Rattle.odb_transdb.proofs.Forcing.{still_holds}
+use Rattle.odb_transdb.proofs.Forced.{entry_read, keeps_or_adds, is_written, forced_run, forced_entries, forced_doubt, behind_gate, from_gate, ok_of, err_of}
 use Rattle.odb_transdb.proofs.transdb.Transdb.force.Given.{Over}
 use Rattle.odb_transdb.proofs.transdb.Transdb.force.Goals as goal
-use Rattle.odb_transdb.proofs.transdb.Transdb.force.Goals.{After-open_gate}
+use Rattle.odb_transdb.proofs.transdb.Transdb.force.Goals.{After-write_record, After-open_gate}
 
 module _ (g : Over) (c : After-open_gate g) where
   abbrev w : World
@@ -31,56 +32,146 @@ module _ (g : Over) (c : After-open_gate g) where
   is_ok : is_err c.write_record.result ≡ false
   is_ok = sym c.is_err.ensures.value ∙ c.if-is_err.false
 
-  reads : IfSome (file_of 0 m) (λ f. payload_at c.write_record.new.self.active.place f.bytes ≡ c.args.payload.now)
-  reads = ok_of (IfSome (file_of 0 m) (λ f. payload_at c.write_record.new.self.active.place f.bytes ≡ c.args.payload.now)) c.write_record.result is_ok c.write_record.ensures.payload
-
-  body : HasItsBody c.write_record.new.self.active (file_of 0 m)
-  body = (ok_of ((c.write_record.new.self.active.has_body ≡ true) × HasItsBody c.write_record.new.self.active (file_of 0 m)) c.write_record.result is_ok c.write_record.ensures.body).1
+  done : IsRecorded c.args.payload.now c.args.self.now c.write_record.new.self w m
+  done = ok_of (IsRecorded c.args.payload.now c.args.self.now c.write_record.new.self w m) c.write_record.result is_ok c.write_record.ensures.recorded
 
   mid_written : (e : Entry) → read_entry c.args.self.now.active.next c.args.payload.now ≡ Ok e → IsWritten c.write_record.new.self e (file_of 0 m)
-  mid_written e one = is_written c.args.self.now c.write_record.new.self w m c.args.payload.now c.write_record.ensures.settled reads e one
+  mid_written e one = is_written c.args.self.now c.write_record.new.self w m c.args.payload.now c.write_record.ensures.settled done.payload_is e one
 
   run : (e : Entry) → read_entry c.args.self.now.active.next c.args.payload.now ≡ Ok e → Runs 0 (HoldsAllOrMore c.args.self.now (entries_in (file_of 0 w)) e) w now
   run e one =
-      forced_run c.args.self.now c.write_record.new.self w m c.args.payload.now c.write_record.ensures.settled reads now c.write_record.ensures.run e
-      (c.open_gate.ensures.run e (mid_written e one))
+      forced_run c.args.self.now c.write_record.new.self w m c.args.payload.now c.write_record.ensures.settled done.payload_is now c.write_record.ensures.run e
+      (c.open_gate.ensures.entry e (mid_written e one)).run
 
-pub returns-in-Ok-clause-run : goal.returns-in-Ok-clause-run
-returns-in-Ok-clause-run g c = λ e one. run g (goal.at.returns-in-Ok-clause-run g c).After-open_gate e one
+  -- what a log at its gate is
+  header : c.open_gate.new.self.header ≡ c.args.self.now.header
+  header = c.open_gate.ensures.same ∙ c.write_record.ensures.settled.header
 
-pub returns-in-Ok-clause-entries : goal.returns-in-Ok-clause-entries
-returns-in-Ok-clause-entries g c = λ e one.
-    let a = (goal.at.returns-in-Ok-clause-entries g c).After-open_gate in
-    forced_entries c.args.self.now c.write_record.new.self (w g a) (m g a) c.args.payload.now c.write_record.ensures.settled (reads g a) (now g a) c.write_record.ensures.run e
-    (c.in-Ok.ensures.entries e (mid_written g a e one))
+-- the record stands behind its gate
+pub open_gate-requires : goal.open_gate-requires
+open_gate-requires g c =
+    let mid = c.write_record.new.self in
+    let settled = c.write_record.ensures.settled in
+    let is_ok = sym c.is_err.ensures.value ∙ c.if-is_err.false in
+    let done = ok_of (IsRecorded c.args.payload.now c.args.self.now mid (g.S.Outside.world c.args.store.now) (g.S.Outside.world c.write_record.new.store)) c.write_record.result is_ok c.write_record.ensures.recorded in
+    record {
+      ready = record {
+        usable = settled.usable;
+        room = omega (arith, c.room-room.ensures, c.if-room-need.false, c.write_record.ensures.end, settled.place, ap (λ (d : Db). d.active.place) c.self.view_is, ap (λ (d : Db). d.active.end) c.self.view_is);
+        behind = omega (arith, done.behind, settled.place);
+        has_body = done.has_body;
+        body = done.body;
+        stands = settled.stands;
+      };
+    }
 
-pub returns-in-Ok-clause-stands : goal.returns-in-Ok-clause-stands
-returns-in-Ok-clause-stands g c =
-    let a = (goal.at.returns-in-Ok-clause-stands g c).After-open_gate in
+pub returns-then-room-need-clause-entry : goal.returns-then-room-need-clause-entry
+returns-then-room-need-clause-entry g c = λ e one. record { run = still_holds c.args.self.now e (g.S.Outside.world c.args.store.now) c.requires.stands; added = tt }
+
+pub returns-then-is_err-clause-entry : goal.returns-then-is_err-clause-entry
+returns-then-is_err-clause-entry g c = λ e one. record {
+  run = keeps_or_adds c.args.self.now e (g.S.Outside.world c.args.store.now) (g.S.Outside.world c.write_record.new.store) c.write_record.ensures.run;
+  added = tt;
+}
+
+pub returns-then-is_err-clause-before : goal.returns-then-is_err-clause-before
+returns-then-is_err-clause-before g c = λ _.
+    let w = g.S.Outside.world c.args.store.now in
+    let m = g.S.Outside.world c.write_record.new.store in
+    record {
+      keeps = c.write_record.ensures.run;
+      settles = c.write_record.ensures.settled;
+      gate = c.write_record.ensures.gate;
+      rose = err_of (FileCountRose 0 w m) c.write_record.result (sym c.is_err.ensures.value ∙ c.if-is_err.true) c.write_record.ensures.cause;
+    }
+
+pub returns-in-Ok-clause-entry : goal.returns-in-Ok-clause-entry
+returns-in-Ok-clause-entry g c = λ e one.
+    let a = (goal.at.returns-in-Ok-clause-entry g c).After-open_gate in
+    record {
+      run = run g a e one;
+      added = forced_entries c.args.self.now c.write_record.new.self (w g a) (m g a) c.args.payload.now c.write_record.ensures.settled (done g a).payload_is (now g a) c.write_record.ensures.run e
+          (c.in-Ok.ensures.entry e (mid_written g a e one)).added;
+    }
+
+pub returns-in-Ok-clause-forced : goal.returns-in-Ok-clause-forced
+returns-in-Ok-clause-forced g c =
+    let a = (goal.at.returns-in-Ok-clause-forced g c).After-open_gate in
     let e = entry_read c.args.self.now.active.next c.args.payload.now c.requires.payload in
-    c.in-Ok.ensures.stands e.0 (mid_written g a e.0 e.1)
+    let ok = c.in-Ok.ensures.ok in
+    let settled = c.write_record.ensures.settled in
+    record {
+      stands = c.in-Ok.ensures.stands e.0 (mid_written g a e.0 e.1);
+      advanced = record {
+        header = header g a;
+        next = omega (arith, ok.0, settled.next);
+        place = omega (arith, ok.1, (done g a).behind);
+        usable = ok.2;
+      };
+    }
 
-pub returns-in-Err-clause-run : goal.returns-in-Err-clause-run
-returns-in-Err-clause-run g c = λ e one. run g (goal.at.returns-in-Err-clause-run g c).After-open_gate e one
+pub returns-in-Err-clause-entry : goal.returns-in-Err-clause-entry
+returns-in-Err-clause-entry g c = λ e one. record { run = run g (goal.at.returns-in-Err-clause-entry g c).After-open_gate e one; added = tt }
 
 pub returns-in-Err-clause-doubt : goal.returns-in-Err-clause-doubt
 returns-in-Err-clause-doubt g c = λ number is.
     let a = (goal.at.returns-in-Err-clause-doubt g c).After-open_gate in
-    forced_doubt c.args.self.now c.write_record.new.self (w g a) (m g a) c.args.payload.now c.write_record.ensures.settled (reads g a) (now g a) c.write_record.ensures.run (body g a)
-    c.open_gate.ensures.only c.in-Err.ensures.cause
+    let settled = c.write_record.ensures.settled in
+    record {
+      gate = forced_doubt c.args.self.now c.write_record.new.self (w g a) (m g a) c.args.payload.now settled (done g a).payload_is (now g a) c.write_record.ensures.run (done g a).body (done g a).tail
+          c.open_gate.ensures.calls c.open_gate.ensures.only c.in-Err.ensures.cause;
+      place = (c.in-Err.ensures.err.0 ∙ settled.next, c.in-Err.ensures.err.1 ∙ settled.place);
+    }
 
 -- where the active side lied at first
 placed : (d : Db) (inside : Inside) → the_view inside ≡ d → IsDb (the_view inside) → IsPlaced d
 placed d inside is db = subst IsPlaced is (is_placed (the_view inside) db)
 
 pub returns-then-room-need-clause-placed : goal.returns-then-room-need-clause-placed
-returns-then-room-need-clause-placed g c = let here = placed c.args.self.now c.self.inside c.self.view_is c.self.invariant in (here, here)
+returns-then-room-need-clause-placed g c =
+    let here = placed c.args.self.now c.self.inside c.self.view_is c.self.invariant in
+    record { header = refl; before = here; after = here }
 
 pub returns-then-is_err-clause-placed : goal.returns-then-is_err-clause-placed
-returns-then-is_err-clause-placed g c = (placed c.args.self.now c.self.inside c.self.view_is c.self.invariant, c.write_record.ensures.placed)
+returns-then-is_err-clause-placed g c = record {
+  header = c.write_record.ensures.settled.header;
+  before = placed c.args.self.now c.self.inside c.self.view_is c.self.invariant;
+  after = c.write_record.ensures.placed;
+}
 
 pub returns-in-Ok-clause-placed : goal.returns-in-Ok-clause-placed
-returns-in-Ok-clause-placed g c = (placed c.args.self.now c.self.inside c.self.view_is c.self.invariant, c.open_gate.ensures.placed)
+returns-in-Ok-clause-placed g c = record {
+  header = header g (goal.at.returns-in-Ok-clause-placed g c).After-open_gate;
+  before = placed c.args.self.now c.self.inside c.self.view_is c.self.invariant;
+  after = c.open_gate.ensures.placed;
+}
 
 pub returns-in-Err-clause-placed : goal.returns-in-Err-clause-placed
-returns-in-Err-clause-placed g c = (placed c.args.self.now c.self.inside c.self.view_is c.self.invariant, c.open_gate.ensures.placed)
+returns-in-Err-clause-placed g c = record {
+  header = header g (goal.at.returns-in-Err-clause-placed g c).After-open_gate;
+  before = placed c.args.self.now c.self.inside c.self.view_is c.self.invariant;
+  after = c.open_gate.ensures.placed;
+}
+
+-- there is room for the gate, so it is the first byte that is written
+room : (g : Over) (c : After-write_record g) → c.args.self.now.active.place < c.args.self.now.active.end
+room g c = omega (arith, c.room-room.ensures, c.if-room-need.false, ap (λ (d : Db). d.active.place) c.self.view_is, ap (λ (d : Db). d.active.end) c.self.view_is)
+
+only : (g : Over) (c : After-open_gate g) → c.args.self.now.active.place < c.args.self.now.active.end → WritesFromGate c.args.self.now (g.S.Outside.world c.args.store.now) (g.S.Outside.world c.open_gate.new.store)
+only g c has_room =
+    from_gate c.args.self.now has_room c.write_record.new.self (w g c) (m g c) (now g c) c.write_record.ensures.settled.place c.write_record.ensures.gate c.open_gate.ensures.only
+
+pub returns-then-is_err-clause-only : goal.returns-then-is_err-clause-only
+returns-then-is_err-clause-only g c =
+    behind_gate c.args.self.now (room g (goal.at.returns-then-is_err-clause-only g c).After-write_record) (g.S.Outside.world c.args.store.now) (g.S.Outside.world c.write_record.new.store)
+    c.write_record.ensures.gate
+
+pub returns-in-Ok-clause-only : goal.returns-in-Ok-clause-only
+returns-in-Ok-clause-only g c =
+    let at = goal.at.returns-in-Ok-clause-only g c in
+    only g at.After-open_gate (room g at.After-write_record)
+
+pub returns-in-Err-clause-only : goal.returns-in-Err-clause-only
+returns-in-Err-clause-only g c =
+    let at = goal.at.returns-in-Err-clause-only g c in
+    only g at.After-open_gate (room g at.After-write_record)

@@ -1,17 +1,21 @@
-use Rattle.std.proofs.Common.{◌≡◌, ◌+◌, ◌≤◌, [], ◌∷◌, ◌++◌, false, Some, sym, ap, ◌∙◌, subst}
-use Rattle.std.specs.Prelude.{IfSome, OnOk}
+use Rattle.std.proofs.Common.{◌≡◌, ℕ, ◌+◌, ◌≤◌, false, [], ◌∷◌, sym, ap, ◌∙◌, subst}
+use Rattle.std.specs.Prelude.{OnOk}
 use Rattle.odb_device.specs.World.{World, file_of}
 use Rattle.odb_device.specs.Images.{TornFrom}
+use Rattle.odb_device.specs.Calls.{IsOnePut}
 use Rattle.odb_device.specs.Moments.{Runs}
-use Rattle.odb_reclog.specs.Standing.{Log, Stands as LogStands, IsClear}
+use Rattle.odb_reclog.specs.Records.{OPEN}
+use Rattle.odb_reclog.specs.Standing.{Log, Stands as LogStands, SameRegion, HasItsBody}
+use Rattle.odb_reclog.specs.Regions.{IsAdded}
 use Rattle.odb_model.specs.declared.entry.Entry.{Entry}
 use Rattle.odb_transdb.specs.Opened.{entries_in}
 use Rattle.odb_transdb.specs.Standing.{Db, IsDb, Stands}
 use Rattle.odb_transdb.specs.Answers.{HoldsAllOrMore}
 use Rattle.odb_transdb.specs.Steps.{IsWritten}
+use Rattle.odb_transdb.specs.Worlds.{AddsEntry, IsAtGate}
 use Rattle.odb_transdb.specs.contracts.transdb.Transdb.{the_view}
-use Rattle.odb_transdb.proofs.Standing.{with_active, SameRegion, is_placed}
-use Rattle.odb_transdb.proofs.Forcing.{HasRoom, IsReady, opening_run, HasList, opening_entries, opening_stands, opening_only, after_ok, gate_db}
+use Rattle.odb_transdb.proofs.Standing.{with_active, stands_log, is_placed}
+use Rattle.odb_transdb.proofs.Forcing.{HasRoom, IsReady, opening_run, opening_entries, opening_stands, opening_only, ok_then, gate_db}
 use Rattle.odb_transdb.proofs.transdb.Transdb.open_gate.Given.{Over}
 use Rattle.odb_transdb.proofs.transdb.Transdb.open_gate.Goals as goal
 use Rattle.odb_transdb.proofs.transdb.Transdb.open_gate.Goals.{After-open_gate}
@@ -32,9 +36,9 @@ module _ (g : Over) (c : After-open_gate g) (e : Entry) (is_written : IsWritten 
   ready : IsReady db w
   ready = record {
     is = c.self.invariant;
-    room = subst HasRoom (sym c.self.view_is) c.requires.room;
-    usable = ap (λ (d : Db). d.active.in_doubt) c.self.view_is ∙ c.requires.usable;
-    stands = subst (λ (d : Db). Stands d (file_of 0 w)) (sym c.self.view_is) c.requires.stands;
+    room = subst HasRoom (sym c.self.view_is) c.requires.ready.room;
+    usable = ap (λ (d : Db). d.active.in_doubt) c.self.view_is ∙ c.requires.ready.usable;
+    stands = subst (λ (d : Db). Stands d (file_of 0 w)) (sym c.self.view_is) c.requires.ready.stands;
     reads = g.met.S.Store.reads_image c.args.store.now 0;
   }
 
@@ -45,29 +49,50 @@ module _ (g : Over) (c : After-open_gate g) (e : Entry) (is_written : IsWritten 
   run = opening_run db log w now ready c.open_gate.ensures.run e written
 
   region : SameRegion db.active log
-  region = let same = c.open_gate.ensures.region in record { file = same.0; start = same.1; end = same.2; first = same.3 }
+  region = c.open_gate.ensures.region
 
-  abbrev Reads : Type 0
-  Reads = IfSome (file_of 0 now) (λ f. entries_in (Some f) ≡ entries_in (file_of 0 w) ++ e ∷ [])
+  abbrev Added : Type 0
+  Added = IsAdded db.active log w now
 
-  after : (D : Type 0) → (LogStands log (file_of db.active.file now) → HasList db log w now ready c.open_gate.ensures.run e written db.active.file → log.next ≡ db.active.next + 1 → D) → OnOk c.open_gate.result D
-  after D gives =
-      after_ok (LogStands log (file_of db.active.file now)) (HasList db log w now ready c.open_gate.ensures.run e written db.active.file) ((log.next ≡ db.active.next + 1) × IsClear log × (log.has_body ≡ false) × (log.in_doubt ≡ false)) D c.open_gate.result
-      (λ stands list ok. gives stands list ok.0) c.open_gate.ensures.stands c.open_gate.ensures.list c.open_gate.ensures.ok
-
-  entries : OnOk c.open_gate.result Reads
-  entries = after Reads (opening_entries db log w now ready c.open_gate.ensures.run e written (g.met.S.Store.reads_image c.open_gate.new.store 0) region)
+  entries : OnOk c.open_gate.result (AddsEntry e w now)
+  entries = ok_then Added (AddsEntry e w now) c.open_gate.result
+      (λ added. opening_entries db log w now ready c.open_gate.ensures.run e written (g.met.S.Store.reads_image c.open_gate.new.store 0) region added.stands added.list added.next) c.open_gate.ensures.added
 
   stands : OnOk c.open_gate.result (Stands (with_active db log) (file_of 0 now))
-  stands = after (Stands (with_active db log) (file_of 0 now)) (opening_stands db log w now ready c.open_gate.ensures.run e written (g.met.S.Store.reads_image c.open_gate.new.store 0) region)
+  stands = ok_then Added (Stands (with_active db log) (file_of 0 now)) c.open_gate.result
+      (λ added. opening_stands db log w now ready c.open_gate.ensures.run e written (g.met.S.Store.reads_image c.open_gate.new.store 0) region added.stands added.list added.next) c.open_gate.ensures.added
 
-pub returns-clause-run : goal.returns-clause-run
-returns-clause-run g c = λ e written.
-    let a = (goal.at.returns-clause-run g c).After-open_gate in
-    subst (λ (d : Db). Runs 0 (HoldsAllOrMore d (entries_in (file_of 0 (g.S.Outside.world c.args.store.now))) e) (g.S.Outside.world c.args.store.now) (g.S.Outside.world c.open_gate.new.store)) c.self.view_is (run g a e written)
+-- the gate of the log that the fields have
+pub open_gate-requires : goal.open_gate-requires
+open_gate-requires g c =
+    let db = the_view c.self.inside in
+    let w = g.S.Outside.world c.args.store.now in
+    let file : db.active.file ≡ 0 = c.self.invariant.active.file in
+    let at : IsAtGate db w = subst (λ (d : Db). IsAtGate d w) (sym c.self.view_is) c.requires.ready in
+    record {
+      ready = record {
+        usable = at.usable;
+        written = at.has_body;
+        stands = subst (λ (k : ℕ). LogStands db.active (file_of k w)) (sym file) (stands_log db (file_of 0 w) at.stands);
+        body = subst (λ (k : ℕ). HasItsBody db.active (file_of k w)) (sym file) at.body;
+      };
+    }
 
-pub returns-clause-entries : goal.returns-clause-entries
-returns-clause-entries g c = λ e written. entries g (goal.at.returns-clause-entries g c).After-open_gate e written
+pub returns-clause-entry : goal.returns-clause-entry
+returns-clause-entry g c = λ e written.
+    let a = (goal.at.returns-clause-entry g c).After-open_gate in
+    record {
+      run = subst (λ (d : Db). Runs 0 (HoldsAllOrMore d (entries_in (file_of 0 (g.S.Outside.world c.args.store.now))) e) (g.S.Outside.world c.args.store.now) (g.S.Outside.world c.open_gate.new.store)) c.self.view_is (run g a e written);
+      added = entries g a e written;
+    }
+
+pub returns-clause-ok : goal.returns-clause-ok
+returns-clause-ok g c =
+    let log = c.open_gate.new.self in
+    let db = the_view c.self.inside in
+    subst (λ (d : Db). OnOk c.open_gate.result ((log.next ≡ d.active.next + 1) × (log.place ≡ d.active.clear_from) × (log.in_doubt ≡ false))) c.self.view_is
+    (ok_then (IsAdded db.active log (g.S.Outside.world c.args.store.now) (g.S.Outside.world c.open_gate.new.store)) ((log.next ≡ db.active.next + 1) × (log.place ≡ db.active.clear_from) × (log.in_doubt ≡ false)) c.open_gate.result
+    (λ added. (added.next, added.place, added.usable)) c.open_gate.ensures.added)
 
 pub returns-clause-stands : goal.returns-clause-stands
 returns-clause-stands g c = λ e written. stands g (goal.at.returns-clause-stands g c).After-open_gate e written
@@ -78,13 +103,20 @@ returns-clause-only g c =
     let now = g.S.Outside.world c.open_gate.new.store in
     subst (λ (d : Db). Runs 0 (TornFrom d.active.place 1 (file_of 0 w)) w now) c.self.view_is (opening_only (the_view c.self.inside) w now c.self.invariant c.open_gate.ensures.run)
 
+pub returns-clause-calls : goal.returns-clause-calls
+returns-clause-calls g c =
+    let w = g.S.Outside.world c.args.store.now in
+    let now = g.S.Outside.world c.open_gate.new.store in
+    let db = the_view c.self.inside in
+    subst (λ (d : Db). IsOnePut 0 d.active.place (OPEN ∷ []) w now) c.self.view_is
+    (subst (λ (k : ℕ). IsOnePut k db.active.place (OPEN ∷ []) w now) c.self.invariant.active.file c.open_gate.ensures.calls)
+
 -- the fields as the call leaves them
 left : (g : Over) (c : After-open_gate g) → IsDb (with_active (the_view c.self.inside) c.open_gate.new.self)
 left g c =
-    let same = c.open_gate.ensures.region in
     let db = the_view c.self.inside in
-    let behind : db.active.place ≤ db.active.clear_from = subst (λ (d : Db). d.active.place ≤ d.active.clear_from) (sym c.self.view_is) c.requires.behind in
-    gate_db db c.open_gate.new.self c.open_gate.result c.self.invariant (record { file = same.0; start = same.1; end = same.2; first = same.3 }) behind c.open_gate.ensures.ok c.open_gate.ensures.place c.open_gate.ensures.err
+    let behind : db.active.place ≤ db.active.clear_from = subst (λ (d : Db). d.active.place ≤ d.active.clear_from) (sym c.self.view_is) c.requires.ready.behind in
+    gate_db db c.open_gate.new.self (g.S.Outside.world c.args.store.now) (g.S.Outside.world c.open_gate.new.store) c.open_gate.result c.self.invariant c.open_gate.ensures.region behind c.open_gate.ensures.added c.open_gate.ensures.err
 
 pub invariant_of-self : goal.invariant_of-self
 invariant_of-self g c = left g (goal.at.invariant_of-self g c).After-open_gate

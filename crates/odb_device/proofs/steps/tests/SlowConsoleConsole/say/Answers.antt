@@ -9,15 +9,14 @@ use Rattle.odb_device.proofs.steps.tests.SlowConsoleConsole.say.Goals as goal
 abbrev told : List ℕ → Bool → ℕ → World
 told said ended faults = record {
   time = length said;
-  moment = λ k. record { files = λ _. None; said = Some (take k said) };
-  faults = λ _. 0;
+  moment = λ k. record { files = λ _. None; said = Some (take k said); faults = λ _. 0 };
   talk = record { taken = None; has_ended = ended; take_faults = 0; say_faults = faults };
 }
 
 talks_more : (before piece : List ℕ) (ended : Bool) (faults : ℕ) → Talks (told before ended faults) (told (before ++ piece) ended faults)
 talks_more before piece ended faults = record {
   later = omega (arith, length-append before piece);
-  past = λ k le. ap (λ (l : List ℕ). let m : Moment = record { files = λ _. None; said = Some l } in m) (take-append-le k before piece le);
+  past = λ k le. ap (λ (l : List ℕ). let m : Moment = record { files = λ _. None; said = Some l; faults = λ _. 0 } in m) (take-append-le k before piece le);
   files = λ k g from to. refl;
   said = λ k from to.
       let more = k - length before in
@@ -28,7 +27,7 @@ talks_more before piece ended faults = record {
         (take more piece, ap Some (front ∙ ap (λ (l : List ℕ). l ++ take more piece) (sym here))),
         (drop k (before ++ piece), ap Some (all ∙ sym (take-append-drop k (before ++ piece)))),
       );
-  faults = λ g. refl;
+  faults = λ k from to g. refl;
   take_faults = omega arith;
   say_faults = omega arith;
 }

@@ -1,0 +1,17 @@
+pub mod Walks
+pub mod Passing
+pub mod Totals
+pub mod Counts
+pub mod Unwritten
+pub mod Keeping
+pub mod Tuples
+pub mod Refusals
+pub mod Outside
+pub mod Updates
+pub mod Updating
+pub mod Telling
+pub mod Executing
+pub mod Values
+pub mod Deleting
+pub mod Inserting
+pub mod Bounds

@@ -1,0 +1,8 @@
+use Rattle.std.proofs.Common.{◌≡◌, ◌++◌, map, take}
+use Rattle.odb_model.specs.Reads.{point, full_keys}
+use Rattle.odb_exec.proofs.reads.put_points.Given as goal
+
+-- the points of the tuples so far stand behind the other ranges
+abbrev pub invariant-loop-tuple : goal.invariant-loop-tuple
+invariant-loop-tuple l =
+    l.reads.items ≡ l.fn.reads.items ++ map (point l.table.number) (full_keys l.table (take l.tuple-index l.tuples))

@@ -1,0 +1,11 @@
+pub mod Outside
+pub mod Walk
+pub mod Written
+pub mod Effect
+pub mod Changes
+pub mod Total
+pub mod Rows
+pub mod Outcome
+pub mod Columns
+pub mod Told
+pub mod Replies

@@ -1,0 +1,4 @@
+pub mod Sends
+pub mod Receiving
+pub mod Firsts
+pub mod Answering

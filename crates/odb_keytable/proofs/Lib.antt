@@ -1,0 +1,4 @@
+pub mod Begins
+pub mod RowPlaces
+pub mod Folds
+pub mod Placings

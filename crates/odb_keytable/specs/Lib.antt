@@ -1,0 +1,6 @@
+pub mod Spot
+pub mod SpotOrder
+pub mod Begin
+pub mod Table
+pub mod Pending
+pub mod Committed

@@ -1,0 +1,97 @@
+//! Rows in a map of spots.
+ghost use Rattle.std.specs.Prelude.{◌≡◌, Option, Some, None, IsTrue, OnOk, OnErr, slice_get, option_map};
+ghost use Rattle.std.specs.List.{find};
+ghost use Rattle.std.specs.BTreeMap.{IsOrdered};
+ghost use Rattle.std.specs.BTreeMap.Range.{is_from_start};
+ghost use Rattle.odb_model.specs.State.{changed};
+ghost use Rattle.odb_rowsource.specs.RowSource.{keyed_row};
+ghost use Rattle.odb_keytable.specs.Spot.{is_row, table_key_at, spot_cmp};
+ghost use Rattle.odb_keytable.specs.Table.{AreRows, state_of, row_entry, is_inside_row, where_passes, lent_entry, lent_row};
+
+use crate::spot::Spot;
+use odb_values::{Key, Range, Row};
+use std::alloc::AllocError;
+use std::collections::BTreeMap;
+use std::collections::btree_map::Range as Entries;
+use std::ops::Bound;
+
+/// Puts a row at its place. The error is want of memory.
+pub(crate) fn insert_row(
+    rows: &mut BTreeMap<Spot, Row>,
+    spot: Spot,
+    row: Row,
+) -> Result<(), AllocError>
+    requires place { IsTrue (is_row spot) }
+    requires rows { AreRows rows.old.entries }
+    ensures ok { OnOk result (state_of rows.new.entries
+        ≡ changed (state_of rows.old.entries) (table_key_at spot) (Some row)) }
+    ensures err { OnErr result (rows.new.entries ≡ rows.old.entries) }
+    ensures rows { AreRows rows.new.entries }
+{
+    let _replaced = rows.insert(spot, row)?;
+    Ok(())
+}
+
+/// Takes the row at a place away.
+pub(crate) fn remove_row(rows: &mut BTreeMap<Spot, Row>, spot: &Spot)
+    requires place { IsTrue (is_row spot.now) }
+    requires rows { AreRows rows.old.entries }
+    ensures removed { state_of rows.new.entries
+        ≡ changed (state_of rows.old.entries) (table_key_at spot.now) None }
+    ensures rows { AreRows rows.new.entries }
+{
+    rows.remove(spot);
+}
+
+/// The first entry from a bound on, in the time of a search.
+pub(crate) fn first_behind<'a>(
+    rows: &'a BTreeMap<Spot, Row>,
+    begin: Bound<Spot>,
+) -> Option<(&'a Spot, &'a Row)>
+    ensures first { option_map lent_entry result
+        ≡ find (λ e. is_from_start spot_cmp begin e.0) rows.now.entries }
+    ensures ordered { IsOrdered spot_cmp rows.now }
+{
+    head(rows.range((begin, Bound::Unbounded)))
+}
+
+/// The first of some entries.
+fn head<'a>(mut entries: Entries<'a, Spot, Row>) -> Option<(&'a Spot, &'a Row)>
+    ensures { option_map lent_entry result ≡ slice_get entries.entry 0 }
+{
+    entries.next()
+}
+
+/// The key and the row of an entry, where it is a row of a range.
+pub(crate) fn where_inside<'a>(
+    first: Option<(&'a Spot, &'a Row)>,
+    range: &Range,
+) -> Option<(&'a Key, &'a Row)>
+    ensures { option_map lent_row result
+        ≡ option_map keyed_row (option_map row_entry
+        (where_passes (is_inside_row range.now) (option_map lent_entry first.entry))) }
+{
+    match first {
+        None => None,
+        Some((spot, row)) => row_inside(spot, row, range),
+    }
+}
+
+/// The key and the row of an entry, where it is a row of a range.
+fn row_inside<'a>(spot: &'a Spot, row: &'a Row, range: &Range) -> Option<(&'a Key, &'a Row)>
+    ensures { option_map lent_row result
+        ≡ option_map keyed_row (option_map row_entry
+        (where_passes (is_inside_row range.now) (Some (spot.now, row.now)))) }
+{
+    match spot {
+        Spot::At(table, key) => {
+            if range.contains(*table, key) {
+                Some((key, row))
+            } else {
+                None
+            }
+        }
+        Spot::Start(_, _) => None,
+        Spot::Past(_, _) => None,
+    }
+}

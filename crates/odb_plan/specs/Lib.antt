@@ -1,0 +1,5 @@
+pub mod Kinds
+pub mod Sides
+pub mod Bound
+pub mod Tests
+pub mod Earlier

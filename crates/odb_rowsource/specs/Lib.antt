@@ -1,0 +1,4 @@
+pub mod RowSource
+pub mod Stand
+pub mod Intentions
+pub mod Overlay
