@@ -70,6 +70,17 @@ def play(where, script, said):
     return timed([PROGRAM, "play"], where, script, said)
 
 
+def watched(words, where, script="/dev/null"):
+    """Runs the words in the folder on the script, and answers the greatest memory in bytes."""
+    with open(script, "rb") as given:
+        child = subprocess.Popen(words, cwd=where, stdin=given, stdout=subprocess.DEVNULL)
+    _, status, usage = os.wait4(child.pid, 0)
+    child.returncode = os.waitstatus_to_exitcode(status)
+    if child.returncode != 0:
+        sys.exit(f"{words} failed")
+    return usage.ru_maxrss * 1024
+
+
 def spread(seconds):
     """The median of the runs, and between which they lie."""
     return f"{statistics.median(seconds):.3f} s ({min(seconds):.3f} to {max(seconds):.3f})"

@@ -57,14 +57,15 @@ abbrev pub Puts : ℕ → ℕ → List ℕ → World → World → Type 0
 Puts file at bytes old new =
     file_of file new ≡ option_map (λ f. kept (written at bytes f)) (file_of file old)
 
--- just one call: a write of these bytes that failed, in which the file's count rose. Where it
--- changed nothing, it can't be told from another call that failed
+-- Of the calls that failed or changed anything just one: a write of these bytes that failed, in which
+-- the file's count rose. Where it changed nothing, it can't be told from another call that failed
 pub record FailsToWrite (file at : ℕ) (bytes : List ℕ) (old new : World) : Type 0 where
   pub call : CallsOn file old new
   pub torn : Tears file at (length bytes) old new
   pub rose : FileCountRose file old new
 
--- just two calls: these bytes are written, and then the file is synced, or that failed
+-- of the calls that failed or changed anything just two: these bytes are written, and then the file
+-- is synced, or that failed
 pub record WritesThenSyncs (file at : ℕ) (bytes : List ℕ) (old new : World) : Type 0 where
   pub mid : World
   pub write : CallsOn file old mid
@@ -72,8 +73,8 @@ pub record WritesThenSyncs (file at : ℕ) (bytes : List ℕ) (old new : World) 
   pub sync : CallsOn file mid new
   pub settled : Keeps file mid new ⊎ Unsettles file mid new
 
--- a write of these bytes and a sync behind it, with no call between or beside them, and none behind
--- one that failed
+-- a write of these bytes and a sync behind it, and no other call that failed or changed anything
+-- between or beside them, or behind a write that failed
 abbrev pub IsOnePut : ℕ → ℕ → List ℕ → World → World → Type 0
 IsOnePut file at bytes old new =
     FailsToWrite file at bytes old new ⊎ WritesThenSyncs file at bytes old new

@@ -35,6 +35,7 @@ pub(crate) struct Bench {
 }
 
 impl Bench {
+    /// An empty store with 8,192 bytes of room for each file, and nothing made on it yet.
     pub(crate) fn new(alloc: Global) -> Result<Bench, StepError> {
         Ok(Bench {
             store: Untold::new(alloc, 8192, 64)?,

@@ -30,6 +30,7 @@ impl Outside for Untold {
 }
 
 impl Untold {
+    /// An empty store with so many bytes of room for each file and places for so many recorded calls.
     pub(crate) fn new(alloc: Global, room: u64, calls: u32) -> Result<Untold, MemError> {
         Ok(Untold {
             store: MemStore::new(alloc, room, calls)?,

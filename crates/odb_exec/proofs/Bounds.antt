@@ -33,7 +33,7 @@ module _ (t : Table) (b : BoundStatement) where
 
   module _ (name : List ℕ) (f : Option Predicate) (bound : IsBound t (Delete name f) b) where
     pub delete-reads : table_reads t (Delete name f) ≡ b.range ∷ []
-    delete-reads = ap (λ (r : Range). r ∷ []) (sym bound.parts.range)
+    delete-reads = ap (λ (r : Range). r ∷ []) (sym bound.parts.0.range)
 
   module _ (is : IsTable t) (s : State) where
     -- the rows of a bound WHERE are those that the statement keeps
@@ -53,4 +53,4 @@ module _ (t : Table) (b : BoundStatement) where
 
       pub delete-does : (name : List ℕ) (f : Option Predicate) → IsBound t (Delete name f) b
           → executed t (Delete name f) s written format ≡ deleted t (rows_left b.range b.filter None s) written
-      delete-does name f bound = ap (λ (rows : List Entry). deleted t rows written) (sym (kept f bound.parts))
+      delete-does name f bound = ap (λ (rows : List Entry). deleted t rows written) (sym (kept f bound.parts.0))

@@ -17,3 +17,4 @@ pub mod Stored
 pub mod Decimal
 pub mod Told
 pub mod Finds
+pub mod Conflicts

@@ -1,6 +1,6 @@
 -- Each transaction that a run commits is serial.
 use Rattle.std.proofs.Common.{◌≡◌, ◌≢◌, ℕ, ◌+◌, ◌-◌, ◌≤◌, Bool, true, false, ◌==◌, cond, List, [], ◌∷◌, ◌++◌, length, take, refl, sym, ap, subst, ◌∙◌, Option, Some, None, arith, length-append, inl, inr}
-use Rattle.std.specs.Prelude.{slice_get, MatchBool, IsSomeAnd}
+use Rattle.std.specs.Prelude.{slice_get, IsSomeAnd}
 use Rattle.std.proofs.lemmas.List.{take-append-le}
 use Rattle.std.proofs.Math.Seq.{take-append_seam, take-length}
 use Rattle.odb_model.specs.declared.write.Write.{Write}
@@ -17,13 +17,13 @@ use Rattle.odb_model.specs.declared.table_key.TableKey.{TableKey}
 use Rattle.odb_model.specs.declared.outcome.Read.{Read}
 use Rattle.odb_model.specs.Reads.{reads}
 use Rattle.odb_model.specs.State.{State, after_writes, replay, IsNumberedFrom, IsHistory}
-use Rattle.odb_model.specs.Meaning.{Meaning, meaning, is_built}
+use Rattle.odb_model.specs.Meaning.{Meaning, meaning}
 use Rattle.odb_model.specs.Transaction.{Executed, statements_of, table_keys, meaning_over, open_state, open_meaning, open_reply, write_set_with, write_set_from, write_set_of, net, alone, read_at, reads_from, reads_of, conflict}
 use Rattle.odb_model.specs.Session.{Session, Idle, Working}
 use Rattle.odb_model.specs.Sides.{Sides}
 use Rattle.odb_model.specs.Book.{Book, Seen, Verdict, by_doubt, verdict, next_entry, Seals, Decides, ends_transaction}
 use Rattle.odb_model.specs.Book as book
-use Rattle.odb_model.specs.Machine.{Machine, first_machine, with_session, book_of, with_book, behind, writes_made, executed_now, Starts, Executes, Commits, Refuses, UpkeepStep, StatementStep, Step}
+use Rattle.odb_model.specs.Machine.{Machine, first_machine, with_session, book_of, with_book, behind, writes_made, executed_now, Starts, Executes, Commits, RollsBack, Refuses, UpkeepStep, StatementStep, Step}
 use Rattle.odb_model.specs.Serial.{IsSerial, HasOpenReplies, SessionAnsweredFromSnapshots, AnsweredFromSnapshots}
 use Rattle.odb_model.specs.Script.{IsRefused, head_of}
 use Rattle.odb_model.specs.Play.{Answer, IsAnswer, IsRun, IsSerialAt, CommitsSerially, AllSerial}
@@ -166,6 +166,12 @@ answered_commits m s seen Idle reply after f step = absurd step
 answered_commits m s seen (Working t) reply after f step =
     moved _ after step.2 (answered_behind m s reply step.0 (decides_grow (book_of m) seen s (verdict (book_of m) t m.format) reply step.0 step.1) f)
 
+answered_rolls_back : (m : Machine) (s : ℕ) (o : Session) (reply : Reply) (after : Machine) → AnsweredFromSnapshots m → RollsBack m s o reply after → AnsweredFromSnapshots after
+answered_rolls_back m s Idle NoTransaction after f step = moved m after step f
+answered_rolls_back m s (Working t) Okay after f step = moved _ after step (answered_with m s Idle tt f)
+answered_rolls_back m s Idle reply after f step = absurd step
+answered_rolls_back m s (Working t) reply after f step = absurd step
+
 answered_refuses : (m : Machine) (reply : Reply) (after : Machine) → AnsweredFromSnapshots m → Refuses m reply after → AnsweredFromSnapshots after
 answered_refuses m NotYet after f step = moved m after step f
 answered_refuses m Memory after f step = moved m after step f
@@ -176,9 +182,9 @@ answered_runs m s seen Start reply after f step = answered_starts m s (m.session
 answered_runs m s seen Commit reply after f step = answered_commits m s seen (m.sessions s) reply after f step
 answered_runs m s seen (Select what table w) reply after f step = answered_executes m s (Select what table w) (m.sessions s) reply after refl f step
 answered_runs m s seen (Insert table tuples) reply after f step = answered_executes m s (Insert table tuples) (m.sessions s) reply after refl f step
-answered_runs m s seen Rollback reply after f step = answered_refuses m reply after f step
-answered_runs m s seen (Update table sets w) reply after f step = answered_refuses m reply after f step
-answered_runs m s seen (Delete table w) reply after f step = answered_refuses m reply after f step
+answered_runs m s seen Rollback reply after f step = answered_rolls_back m s (m.sessions s) reply after f step
+answered_runs m s seen (Update table sets w) reply after f step = answered_executes m s (Update table sets w) (m.sessions s) reply after refl f step
+answered_runs m s seen (Delete table w) reply after f step = answered_executes m s (Delete table w) (m.sessions s) reply after refl f step
 answered_runs m s seen (CreateDatabank name) reply after f step = answered_refuses m reply after f step
 answered_runs m s seen (CreateTable name columns key bank) reply after f step = answered_refuses m reply after f step
 answered_runs m s seen (DropTable name) reply after f step = answered_refuses m reply after f step
@@ -192,13 +198,8 @@ answered_runs m s seen (BackupReady name) reply after f step = answered_refuses 
 answered_runs m s seen (DropBackup name) reply after f step = answered_refuses m reply after f step
 answered_runs m s seen (Restore bank name) reply after f step = answered_refuses m reply after f step
 
-either : (b : Bool) (P Q R : Type 0) → (P → R) → (Q → R) → MatchBool b P Q → R
-either true P Q R f g h = f h
-either false P Q R f g h = g h
-
 pub answered_step : (m : Machine) (s : ℕ) (st : Statement) (seen : Seen) (reply : Reply) (after : Machine) → AnsweredFromSnapshots m → Step m (OfSession s st) seen reply after → AnsweredFromSnapshots after
-answered_step m s st seen reply after f step =
-    either (is_built st) (StatementStep m s seen st reply after) (Refuses m reply after) (AnsweredFromSnapshots after) (answered_runs m s seen st reply after f) (answered_refuses m reply after f) step
+answered_step m s st seen reply after f step = answered_runs m s seen st reply after f step
 
 -- what a transaction that commits does alone at the history's end
 alone_now : (m : Machine) (s : ℕ) (t : List Executed) → m.sessions s ≡ Working t → AnsweredFromSnapshots m → conflict m.history t m.format ≡ None → DoesAlone m.history [] t m.format
@@ -289,6 +290,14 @@ serial_executes m s st (Working t) (Committed k) after step = absurd (not_execut
 serial_executes m s st (Working t) (Ended p) after step = absurd (not_executed m st t (Ended p) refl step.0)
 serial_executes m s st o reply after step = tt
 
+serial_rolls_back : (m : Machine) (s : ℕ) (o : Session) (reply : Reply) (after : Machine) → RollsBack m s o reply after → commits_at m s o reply after
+unfolding commits_at
+serial_rolls_back m s Idle (Committed k) after step = absurd step
+serial_rolls_back m s Idle (Ended p) after step = absurd step
+serial_rolls_back m s (Working t) (Committed k) after step = absurd step
+serial_rolls_back m s (Working t) (Ended p) after step = absurd step
+serial_rolls_back m s o reply after step = tt
+
 serial_refuses : (m : Machine) (s : ℕ) (o : Session) (reply : Reply) (after : Machine) → Refuses m reply after → commits_at m s o reply after
 unfolding commits_at
 serial_refuses m s o (Committed k) after step = absurd step
@@ -300,9 +309,9 @@ serial_runs m s seen Start reply after f step = serial_starts m s (m.sessions s)
 serial_runs m s seen Commit reply after f step = serial_commits m s seen (m.sessions s) reply after refl f step
 serial_runs m s seen (Select what table w) reply after f step = serial_executes m s (Select what table w) (m.sessions s) reply after step
 serial_runs m s seen (Insert table tuples) reply after f step = serial_executes m s (Insert table tuples) (m.sessions s) reply after step
-serial_runs m s seen Rollback reply after f step = serial_refuses m s (m.sessions s) reply after step
-serial_runs m s seen (Update table sets w) reply after f step = serial_refuses m s (m.sessions s) reply after step
-serial_runs m s seen (Delete table w) reply after f step = serial_refuses m s (m.sessions s) reply after step
+serial_runs m s seen Rollback reply after f step = serial_rolls_back m s (m.sessions s) reply after step
+serial_runs m s seen (Update table sets w) reply after f step = serial_executes m s (Update table sets w) (m.sessions s) reply after step
+serial_runs m s seen (Delete table w) reply after f step = serial_executes m s (Delete table w) (m.sessions s) reply after step
 serial_runs m s seen (CreateDatabank name) reply after f step = serial_refuses m s (m.sessions s) reply after step
 serial_runs m s seen (CreateTable name columns key bank) reply after f step = serial_refuses m s (m.sessions s) reply after step
 serial_runs m s seen (DropTable name) reply after f step = serial_refuses m s (m.sessions s) reply after step
@@ -323,9 +332,7 @@ as_told m s (Ended p) after c = c
 as_told m s reply after c = tt
 
 pub serial_step : (m : Machine) (s : ℕ) (st : Statement) (seen : Seen) (reply : Reply) (after : Machine) → AnsweredFromSnapshots m → Step m (OfSession s st) seen reply after → CommitsSerially m (HeadOf s) reply after
-serial_step m s st seen reply after f step =
-    as_told m s reply after (either (is_built st) (StatementStep m s seen st reply after) (Refuses m reply after) (commits_at m s (m.sessions s) reply after)
-    (serial_runs m s seen st reply after f) (serial_refuses m s (m.sessions s) reply after) step)
+serial_step m s st seen reply after f step = as_told m s reply after (serial_runs m s seen st reply after f step)
 
 serial_refused : (line : List ℕ) (m : Machine) (head : Head) (reply : Reply) (after : Machine) → IsRefused line head reply → CommitsSerially m head reply after
 serial_refused line m (HeadOf s) (Committed k) after refusal = absurd refusal

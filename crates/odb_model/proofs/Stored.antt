@@ -28,7 +28,7 @@ use Rattle.odb_model.specs.Binding.{first_refusal, binding_refusal}
 use Rattle.odb_model.specs.Width.{row_fits, width_of_change}
 use Rattle.odb_model.specs.Fitting.{lacks_value, has_long_text, widest_key, row_refusal}
 use Rattle.odb_model.specs.Truth.{matches}
-use Rattle.odb_model.specs.Meaning.{meaning, refused, refused_or, done, different, most_writes, executed, on_table, values_of, kept_rows, write_at, place_of, put_of, writes_of, with_write, duplicate_refusal, tuples_refusal, new_values, new_row_refusal, update_refusal, new_row_writes, update_writes, delete_writes, is_built, is_pair_of_numbers}
+use Rattle.odb_model.specs.Meaning.{meaning, refused, refused_or, done, different, most_writes, executed, on_table, values_of, kept_rows, write_at, place_of, put_of, writes_of, with_write, duplicate_refusal, tuples_refusal, new_values, new_row_refusal, update_refusal, new_row_writes, update_writes, delete_writes}
 use Rattle.odb_model.specs.Transaction.{table_keys, last_writes, is_there, net}
 use Rattle.odb_model.specs.Storable.{IsNarrow, AreStorable, IsStorableList, HasKeys}
 use Rattle.odb_model.proofs.Replay.{table_key_cmp_total, table_key_cmp_exact}
@@ -136,49 +136,6 @@ module _ (s : State) (write_set : List Write) (keyed : HasKeys s) (f : AreStorab
   any_stored (Update table sets filter_of) = on_table_stored (table_of s table) (Update table sets filter_of)
   any_stored (Delete table filter_of) = on_table_stored (table_of s table) (Delete table filter_of)
   any_stored other = nothing_more write_set f
-
--- a row of KV of two numbers
-abbrev pair : ℤ → ℤ → List Value
-pair key value = Int key ∷ Int value ∷ []
-
-not_built : (b : Bool) → (b && false) ≡ true → ⊥
-not_built true e = cc
-not_built false e = cc
-
-pairs_narrow : (tuples : List (List Value)) → is_pair_of_numbers tuples ≡ true → All IsNarrow (flat_map (writes_of kv) tuples)
-pairs_narrow ((Int key ∷ Int value ∷ []) ∷ []) e = All-cons IsNarrow (put_of kv (pair key value)) [] (lit≤ tt) (All-nil IsNarrow)
-pairs_narrow other e = cc
-
-module _ (s : State) (write_set : List Write) (format : ℕ) (f : AreStorable write_set) where
-  -- what changes nothing adds no writes
-  unwritten : (o : Option Table) (st : Statement) → ((t : Table) → (executed t st s (table_keys write_set) format).writes ≡ []) → AreStorable (write_set ++ (on_table o st s (table_keys write_set) format).writes)
-  unwritten None st none = nothing_more write_set f
-  unwritten (Some t) st none =
-      elim (binding_refusal t st) as (λ o. AreStorable (write_set ++ (refused_or o (executed t st s (table_keys write_set) format)).writes)) [
-        | None ↦ subst (λ (ws : List Write). AreStorable (write_set ++ ws)) (sym (none t)) (nothing_more write_set f)
-        | Some reply ↦ nothing_more write_set f
-      ]
-
-  pair_stored : (table : List ℕ) (tuples : List (List Value)) → is_pair_of_numbers tuples ≡ true → AreStorable (write_set ++ (on_table (Some kv) (Insert table tuples) s (table_keys write_set) format).writes)
-  pair_stored table tuples pairs =
-      elim (binding_refusal kv (Insert table tuples)) as (λ o. AreStorable (write_set ++ (refused_or o (executed kv (Insert table tuples) s (table_keys write_set) format)).writes)) [
-        | None ↦ unless_stored write_set (length tuples) (flat_map (writes_of kv) tuples) (tuples_refusal format kv s tuples) (λ none. pairs_narrow tuples pairs) f
-        | Some reply ↦ nothing_more write_set f
-      ]
-
-  built_stored : (st : Statement) → IsTrue (is_built st) → AreStorable (write_set ++ (meaning st s (table_keys write_set) format).writes)
-  built_stored (Select what table filter_of) built = unwritten (table_of s table) (Select what table filter_of) (λ t. refl)
-  built_stored (Insert table tuples) built =
-      let parts = and_true (is_named table (codes "KV")) (is_pair_of_numbers tuples) built in
-      subst (λ (b : Bool). AreStorable (write_set ++ (on_table (cond b (Some kv) (if has_name_form table then option_and_then table_in_row (get s (in_dictionary table)) else None)) (Insert table tuples) s (table_keys write_set) format).writes))
-      (sym parts.0) (pair_stored table tuples parts.1)
-  built_stored (Update table sets filter_of) built = cc
-  built_stored (Delete table filter_of) built = cc
-  built_stored other built = nothing_more write_set f
-
--- whatever a statement of a form that is built writes, in each format
-pub more_stored : (st : Statement) (s : State) (write_set : List Write) (format : ℕ) → IsTrue (is_built st) → AreStorable write_set → AreStorable (write_set ++ (meaning st s (table_keys write_set) format).writes)
-more_stored st s write_set format built f = built_stored s write_set format f st built
 
 pub net_stored : (s : State) (write_set : List Write) → AreStorable write_set → IsStorableList (net s write_set)
 net_stored s write_set f =

@@ -18,9 +18,9 @@ pub record Book : Type 0 where
   pub sides : Sides
   pub in_doubt : Option Entry
 
--- What a step meets outside: the files whose counts of faults rose in it; and of TRANSDB, file 0,
--- whether its count rose before the gate of a record was written, and whether it rose from that
--- write on
+-- What a step meets outside, as far as its reply tells of it: the files of whose rise in their counts
+-- of faults it tells; and of TRANSDB, file 0, whether it tells of a rise before the gate of a record
+-- was written, and of one from that write on. A fault that was made good isn't told, and isn't here
 pub record Seen : Type 0 where
   pub rose : ℕ → Bool
   pub rose_before_gate : Bool

@@ -1,6 +1,6 @@
 -- The machine: one history, 64 sessions and the log of commits. A step is a relation by cases on
 -- the event and the reply.
-use Rattle.std.specs.Prelude.{◌≡◌, ℕ, ◌==◌, MatchBool, List, [], ◌∷◌, ◌++◌, length, Option, Some, None, if◌then◌else◌}
+use Rattle.std.specs.Prelude.{◌≡◌, ℕ, ◌==◌, List, [], ◌∷◌, ◌++◌, length, Option, Some, None, if◌then◌else◌}
 use Rattle.odb_model.specs.declared.write.Write.{Write}
 use Rattle.odb_model.specs.declared.entry.Entry.{Entry}
 use Rattle.odb_model.specs.declared.event.Event.{Event}
@@ -8,8 +8,7 @@ use Rattle.odb_model.specs.declared.event.Event.TheVariants.{Session as OfSessio
 use Rattle.odb_model.specs.declared.reply.Reply.{Reply}
 use Rattle.odb_model.specs.declared.reply.Reply.TheVariants.{Okay, NotYet, NoTransaction, InTransaction, Memory}
 use Rattle.odb_model.specs.declared.statement.Statement.{Statement}
-use Rattle.odb_model.specs.declared.statement.Statement.TheVariants.{Start, Commit, Select, Insert}
-use Rattle.odb_model.specs.Meaning.{is_built}
+use Rattle.odb_model.specs.declared.statement.Statement.TheVariants.{Start, Commit, Rollback, Select, Insert, Update, Delete}
 use Rattle.odb_model.specs.Transaction.{Executed, open_reply, write_set_of}
 use Rattle.odb_model.specs.Session.{Session, Idle, Working}
 use Rattle.odb_model.specs.Sides.{Sides}
@@ -94,20 +93,32 @@ Commits m s seen (Working t) reply after =
     (b : Book) × Decides (book_of m) seen s (verdict (book_of m) t m.format) reply b
     × (after ≡ behind m s reply b)
 
--- a statement of a form that isn't built
+-- ROLLBACK, which takes no memory: what the transaction wrote is dropped, and the history stays
+abbrev pub RollsBack : Machine → ℕ → Session → Reply → Machine → Type 0
+RollsBack m s Idle NoTransaction after = after ≡ m
+RollsBack m s Idle reply after = ⊥
+RollsBack m s (Working t) Okay after = after ≡ with_session m s Idle
+RollsBack m s (Working t) reply after = ⊥
+
+-- a definition, none of which is built
 abbrev pub Refuses : Machine → Reply → Machine → Type 0
 Refuses m NotYet after = after ≡ m
 Refuses m Memory after = after ≡ m
 Refuses m reply after = ⊥
 
--- a statement of a form that is built
+-- a statement of a session
 abbrev pub StatementStep : Machine → ℕ → Seen → Statement → Reply → Machine → Type 0
 StatementStep m s seen Start reply after = Starts m s (m.sessions s) reply after
 StatementStep m s seen Commit reply after = Commits m s seen (m.sessions s) reply after
+StatementStep m s seen Rollback reply after = RollsBack m s (m.sessions s) reply after
 StatementStep m s seen (Select what table filter) reply after =
     Executes m s (Select what table filter) (m.sessions s) reply after
 StatementStep m s seen (Insert table tuples) reply after =
     Executes m s (Insert table tuples) (m.sessions s) reply after
+StatementStep m s seen (Update table sets filter) reply after =
+    Executes m s (Update table sets filter) (m.sessions s) reply after
+StatementStep m s seen (Delete table filter) reply after =
+    Executes m s (Delete table filter) (m.sessions s) reply after
 StatementStep m s seen other reply after = Refuses m reply after
 
 -- a step of upkeep, none of which is built
@@ -117,6 +128,5 @@ UpkeepStep m reply after = ⊥
 
 -- From m, an event in whose step this was seen may get this reply, and then leads to `after`
 abbrev pub Step : Machine → Event → Seen → Reply → Machine → Type 0
-Step m (OfSession s st) seen reply after =
-    MatchBool (is_built st) (StatementStep m s seen st reply after) (Refuses m reply after)
+Step m (OfSession s st) seen reply after = StatementStep m s seen st reply after
 Step m (Control control) seen reply after = UpkeepStep m reply after

@@ -1,6 +1,6 @@
 -- What a statement means on a state: its reply and its writes, over the whole list of the table's
 -- rows.
-use Rattle.std.specs.Prelude.{ℕ, pos, Bool, true, false, nat_lt, List, [], ◌∷◌, ◌++◌, length, map, filter, find, codes, ◌&&◌, is_some, Option, Some, None, option_map, if◌then◌else◌}
+use Rattle.std.specs.Prelude.{ℕ, pos, nat_lt, List, [], ◌∷◌, ◌++◌, length, map, filter, find, is_some, Option, Some, None, option_map, if◌then◌else◌}
 use Rattle.std.specs.Option.{option_or}
 use Rattle.std.specs.List.{zip, flat_map}
 use Rattle.std.specs.FinMap.{FinMap, empty, get, insert, entries}
@@ -12,10 +12,7 @@ use Rattle.odb_model.specs.declared.reply.Reply.TheVariants.{Okay, Rows, Done, N
 use Rattle.odb_model.specs.declared.statement.What.{What}
 use Rattle.odb_model.specs.declared.statement.What.TheVariants.{All, Columns, Count, Sum}
 use Rattle.odb_model.specs.declared.statement.Assignment.{Assignment}
-use Rattle.odb_model.specs.declared.predicate.Operand.TheVariants.{Column as ColumnOf, Literal}
-use Rattle.odb_model.specs.declared.predicate.Compare.TheVariants.{Gt}
 use Rattle.odb_model.specs.declared.predicate.Predicate.{Predicate}
-use Rattle.odb_model.specs.declared.predicate.Predicate.TheVariants.{Test}
 use Rattle.odb_model.specs.declared.statement.Statement.{Statement}
 use Rattle.odb_model.specs.declared.statement.Statement.TheVariants.{Start, Commit, Rollback, Select, Insert, Update, Delete}
 use Rattle.odb_model.specs.declared.table_key.TableKey.{TableKey}
@@ -214,27 +211,3 @@ meaning (Update table sets filter_of) s written format =
 meaning (Delete table filter_of) s written format =
     on_table (table_of s table) (Delete table filter_of) s written format
 meaning other s written format = refused NotYet
-
-abbrev is_k_alone : What → Bool
-is_k_alone (Columns []) = false
-is_k_alone (Columns (name ∷ [])) = is_named name (codes "K")
-is_k_alone (Columns (name ∷ other ∷ names)) = false
-is_k_alone other = false
-
-abbrev is_k_above_number : Option Predicate → Bool
-is_k_above_number (Some (Test Gt (ColumnOf name) (Literal (Int n)))) = is_named name (codes "K")
-is_k_above_number other = false
-
-abbrev pub is_pair_of_numbers : List (List Value) → Bool
-is_pair_of_numbers ((Int k ∷ Int v ∷ []) ∷ []) = true
-is_pair_of_numbers other = false
-
--- the forms that are built: START, COMMIT, an INSERT of one pair of numbers into KV, and
--- SELECT K FROM KV WHERE K > number
-abbrev pub is_built : Statement → Bool
-is_built Start = true
-is_built Commit = true
-is_built (Select what table filter_of) =
-    is_k_alone what && is_named table (codes "KV") && is_k_above_number filter_of
-is_built (Insert table tuples) = is_named table (codes "KV") && is_pair_of_numbers tuples
-is_built other = false

@@ -34,19 +34,19 @@ different-le ps =
 not_above : (a b : ℕ) → b ≤ a → nat_lt a b ≡ false
 not_above a b h = grind (arith, nat_tests)
 
--- where there are fewer writes than keys allowed, one more is not too many
-pub few_enough : (write_set : List Write) (w : Write) → length write_set < 4096 → nat_lt most_writes (different (table_keys write_set ++ table_key_of w ∷ [])) ≡ false
-few_enough write_set w few =
-    let most = different-le (table_keys write_set ++ table_key_of w ∷ []) in
-    not_above most_writes _ (omega (arith, length-append (table_keys write_set) (table_key_of w ∷ []), length-map write_set table_key_of))
+-- where there are no more writes than keys allowed, there are not too many
+pub few_enough : (write_set ws : List Write) → length write_set + length ws ≤ 4096 → nat_lt most_writes (different (table_keys write_set ++ map table_key_of ws)) ≡ false
+few_enough write_set ws few =
+    let most = different-le (table_keys write_set ++ map table_key_of ws) in
+    not_above most_writes _ (omega (arith, length-append (table_keys write_set) (map table_key_of ws), length-map write_set table_key_of, length-map ws table_key_of))
 
 last_from-append : (m : FinMap table_key_cmp Write) (ws vs : List Write) → last_from m (ws ++ vs) ≡ last_from (last_from m ws) vs
 last_from-append m [] vs = refl
 last_from-append m (w ∷ ws) vs = last_from-append (insert m (table_key_of w) w) ws vs
 
--- the last writes with one more, counted
-pub length-one_more : (write_set : List Write) (w : Write) (es : List (TableKey × Write)) → IsStrictlySortedBy table_key_cmp (map (λ e. e.0) es) → by_table_key es ≡ insert (last_writes write_set) (table_key_of w) w
-    → length es ≡ different (table_keys write_set ++ table_key_of w ∷ [])
-length-one_more write_set w es ordered last =
-    ap length (sym (entries-from_ordered es ordered) ∙ ap entries (last ∙ sym (last_from-append empty write_set (w ∷ []))))
-    ∙ length-last_writes (write_set ++ w ∷ []) ∙ ap different (map-append table_key_of write_set (w ∷ []))
+-- the last writes with some more, counted
+pub length-more : (write_set ws : List Write) (es : List (TableKey × Write)) → IsStrictlySortedBy table_key_cmp (map (λ e. e.0) es) → by_table_key es ≡ last_from (last_writes write_set) ws
+    → length es ≡ different (table_keys write_set ++ map table_key_of ws)
+length-more write_set ws es ordered last =
+    ap length (sym (entries-from_ordered es ordered) ∙ ap entries (last ∙ sym (last_from-append empty write_set ws)))
+    ∙ length-last_writes (write_set ++ ws) ∙ ap different (map-append table_key_of write_set ws)

@@ -1,7 +1,13 @@
 pub mod Items
 pub mod Maps
 pub mod Inside
-pub mod Forms
 pub mod Conflicts
 pub mod Nets
 pub mod Counts
+pub mod Lists
+pub mod Keeping
+pub mod Making
+pub mod Outside
+pub mod Summing
+pub mod Running
+pub mod Edges

@@ -1,3 +1,9 @@
-pub mod Form
+pub mod Truth
+pub mod Above
+pub mod Kinds
+pub mod Earlier
+pub mod Sides
+pub mod Tests
+pub mod Changes
 pub mod Outcome
 pub mod Net

@@ -1,22 +1,32 @@
 //! The statements of a transaction, one at a time.
-ghost use Rattle.std.specs.Prelude.{◌≡◌, ℕ, [], ◌∷◌, map, slice_get, unwrap_or, IfOk, IsTrue};
-ghost use Rattle.std.specs.FinMap.{entries};
-ghost use Rattle.odb_values.specs.declared.value.Value.TheVariants.{Null};
-ghost use Rattle.odb_model.specs.Meaning.{is_built};
-ghost use Rattle.odb_plain.specs.Form.{statement_of};
-ghost use Rattle.odb_plain.specs.Outcome.{IsOutcomeOf};
+ghost use Rattle.std.specs.Prelude.{◌≡◌, [], ◌∷◌, IfOk};
+ghost use Rattle.odb_model.specs.Dictionary.{table_of};
+ghost use Rattle.odb_model.specs.Meaning.{kept_values, selected, executed, on_table};
+ghost use Rattle.odb_model.specs.Reads.{dictionary_row, reads_on};
+ghost use Rattle.odb_model.specs.Transaction.{table_keys};
+ghost use Rattle.odb_plain.specs.Outcome.{IsOutcomeOf, IsOutcomeOn, with_reads};
 
-use crate::form::{Form, form_of};
-use crate::kv::{kv_above, kv_in_dictionary, kv_point, kv_write};
-use crate::net::is_one_too_many;
-use crate::{Rows, rows_in};
-use odb_model::{Entry, Outcome, Ranges, Reply, Statement, TableKey, ValueRows, Write};
-use odb_values::{Duplicate, Frozen, List};
+use crate::Rows;
+use crate::binding::binding_refusal;
+use crate::effect::Effect;
+use crate::insert::inserted;
+use crate::kept::kept_values;
+use crate::reads::table_reads;
+use crate::state::state_after;
+use crate::table::table_of;
+use crate::told::told;
+use crate::update::{deleted, updated};
+use odb_catalog::{TableDef, dictionary_range};
+use odb_model::{Entry, Outcome, Predicate, Reply, Statement, What, Write};
+use odb_values::{Frozen, Range, Text};
 use std::alloc::{AllocError, Global};
 
 /// What a statement does where the transaction's write set is laid over this history, in a database
-/// of this format, 1 or 2: its reply, its writes in their order, and the ranges that it reads.
-/// [`crate::is_built`] is the test of the condition, and the rest is as [`execute_form`] has it.
+/// of this format, 1 or 2: its reply, its writes in their order, and the ranges that it reads. The
+/// history and the write set stay as they are.
+///
+/// It goes over the whole history, and takes memory for all rows that it leaves; the rest is as
+/// [`execute_on`] has it.
 pub fn execute(
     alloc: Global,
     statement: &Statement,
@@ -24,122 +34,143 @@ pub fn execute(
     write_set: &[Write],
     format: u16,
 ) -> Result<Outcome, AllocError>
-    requires { IsTrue (is_built statement.now) }
     ensures { IfOk result (IsOutcomeOf statement.now history.now write_set.now format) }
 {
-    match form_of(statement) {
-        Some(form) => execute_form(alloc, form, history, write_set, format),
-        None => unreachable!(),
-    }
+    let rows = state_after(alloc, history, write_set)?;
+    execute_on(alloc, statement, &rows, write_set, format)
 }
 
-/// What the statement of a form does where the transaction's write set is laid over this history, in
-/// a database of this format. The history and the write set stay as they are.
+/// What a statement does on these rows, in which its transaction has made this write set already, in
+/// a database of this format.
 ///
-/// A SELECT or an INSERT goes over the whole history once, and takes memory for the rows inside the
-/// range that it reads. An INSERT behind 4,096 writes or more takes memory for the last one of each
-/// key besides, to count the keys. The error is want of memory.
-pub fn execute_form(
+/// A SELECT, an UPDATE or a DELETE goes over all rows once, an INSERT looks up each of its keys. Where
+/// a transaction may have written more than 4,096 keys they are counted, which takes memory for the
+/// last write of each. The error is want of memory.
+pub fn execute_on(
     alloc: Global,
-    form: Form,
-    history: &[Entry],
+    statement: &Statement,
+    rows: &Rows,
     write_set: &[Write],
     format: u16,
 ) -> Result<Outcome, AllocError>
-    ensures { IfOk result (IsOutcomeOf (statement_of form) history.now write_set.now format) }
+    ensures { IfOk result
+        (IsOutcomeOn statement.now rows.now (table_keys write_set.now) format) }
 {
-    match form {
-        Form::Start | Form::Commit => Ok(mark(alloc)),
-        Form::Insert { key, value } => insert(alloc, key, value, history, write_set),
-        Form::KeysAbove(number) => keys_above(alloc, number, history, write_set),
+    match statement {
+        Statement::Start | Statement::Commit | Statement::Rollback => {
+            let effect = Effect::refused(alloc, Reply::Okay);
+            Ok(with_reads(effect, Vec::new(alloc)))
+        }
+        Statement::Select {
+            what: _,
+            table,
+            filter: _,
+        } => on_table(alloc, table, statement, rows, write_set, format),
+        Statement::Insert { table, tuples: _ } => {
+            on_table(alloc, table, statement, rows, write_set, format)
+        }
+        Statement::Update {
+            table,
+            sets: _,
+            filter: _,
+        } => on_table(alloc, table, statement, rows, write_set, format),
+        Statement::Delete { table, filter: _ } => {
+            on_table(alloc, table, statement, rows, write_set, format)
+        }
+        _ => {
+            let effect = Effect::refused(alloc, Reply::NotYet);
+            Ok(with_reads(effect, Vec::new(alloc)))
+        }
     }
 }
 
-/// START and COMMIT, which mean nothing on rows.
-fn mark(alloc: Global) -> Outcome
-    ensures { result ≡ record { reply = Reply.Okay; writes = []; reads = [] } }
+/// An effect, and the ranges that were read for it.
+fn with_reads(effect: Effect, reads: Vec<Range>) -> Outcome
+    ensures { result ≡ with_reads effect reads.items }
 {
-    Outcome {
-        reply: Reply::Okay,
-        writes: Frozen::empty(alloc),
-        reads: Frozen::empty(alloc),
-    }
-}
-
-/// A statement that is refused, which writes nothing and has read all the same. It takes no memory.
-fn refused(alloc: Global, reply: Reply, reads: Ranges) -> Outcome
-    ensures { result ≡ record { reply = reply; writes = []; reads = reads } }
-{
+    let Effect { reply, writes } = effect;
     Outcome {
         reply,
-        writes: Frozen::empty(alloc),
-        reads,
-    }
-}
-
-/// INSERT INTO KV of one key and its value, which fit in each format.
-fn insert(
-    alloc: Global,
-    key: i64,
-    value: i64,
-    history: &[Entry],
-    write_set: &[Write],
-) -> Result<Outcome, AllocError>
-    ensures { (format : ℕ) → IfOk result
-        (IsOutcomeOf (statement_of (Form.Insert key value)) history.now write_set.now format) }
-{
-    let write = kv_write(alloc, key, value)?;
-    let at = TableKey::of(alloc, &write)?;
-    let point = kv_point(alloc, key)?;
-    let rows = rows_in(alloc, history, write_set, &point)?;
-    let reads = vec![in alloc; kv_in_dictionary(alloc)?, point]?;
-    let reads = Frozen::from_vec(reads);
-    if rows.has(&at) {
-        return Ok(refused(alloc, Reply::Duplicate, reads));
-    }
-    if is_one_too_many(alloc, write_set, &write)? {
-        return Ok(refused(alloc, Reply::TooManyWrites, reads));
-    }
-    let writes = Frozen::from_vec(vec![in alloc; write]?);
-    Ok(Outcome {
-        reply: Reply::Done(1),
         writes,
-        reads,
-    })
-}
-
-/// SELECT K FROM KV WHERE K is above a number. The format doesn't matter.
-fn keys_above(
-    alloc: Global,
-    number: i64,
-    history: &[Entry],
-    write_set: &[Write],
-) -> Result<Outcome, AllocError>
-    ensures { (format : ℕ) → IfOk result
-        (IsOutcomeOf (statement_of (Form.KeysAbove number)) history.now write_set.now format) }
-{
-    let range = kv_above(alloc, number);
-    let rows = rows_in(alloc, history, write_set, &range)?;
-    let found = first_values(alloc, &rows)?;
-    let reads = vec![in alloc; kv_in_dictionary(alloc)?, range]?;
-    let reads = Frozen::from_vec(reads);
-    Ok(Outcome {
-        reply: Reply::Rows(found),
-        writes: Frozen::empty(alloc),
-        reads,
-    })
-}
-
-/// The first value of each key, alone in a row, in key order.
-fn first_values(alloc: Global, rows: &Rows) -> Result<ValueRows, AllocError>
-    ensures { IfOk result (λ found. found
-        ≡ map (λ row. unwrap_or (slice_get row.0.key 0) Null ∷ []) (entries rows.now)) }
-{
-    let mut found = List::new(alloc);
-    for (at, _) in rows.iter() {
-        let first = vec![in alloc; at.key.as_slice()[0].copy(alloc)?]?;
-        found.reserve()?;
-        found.push(Frozen::from_vec(first));
+        reads: Frozen::from_vec(reads),
     }
-    Ok(Frozen::new(found))
+}
+
+/// What a statement on the rows of the table of this name does. The error is want of memory.
+fn on_table(
+    alloc: Global,
+    name: &Text,
+    statement: &Statement,
+    rows: &Rows,
+    write_set: &[Write],
+    format: u16,
+) -> Result<Outcome, AllocError>
+    ensures { IfOk result (λ outcome. outcome ≡ with_reads
+        (on_table (table_of rows.now name.now) statement.now rows.now
+        (table_keys write_set.now) format)
+        (dictionary_row name.now ∷ reads_on (table_of rows.now name.now) statement.now)) }
+{
+    let mut reads = vec![in alloc; dictionary_range(alloc, name)?]?;
+    let Some(table) = table_of(alloc, rows, name)? else {
+        return Ok(with_reads(Effect::refused(alloc, Reply::NoTable), reads));
+    };
+    if let Some(reply) = binding_refusal(&table, statement) {
+        return Ok(with_reads(Effect::refused(alloc, reply), reads));
+    }
+    let mut of_table = table_reads(alloc, &table, statement)?;
+    reads.append(&mut of_table)?;
+    let effect = executed(alloc, &table, statement, rows, write_set, format)?;
+    Ok(with_reads(effect, reads))
+}
+
+/// What a SELECT of the rows that a WHERE keeps tells. The error is want of memory.
+fn selected(
+    alloc: Global,
+    table: &TableDef,
+    what: &What,
+    filter: &Option<Predicate>,
+    rows: &Rows,
+) -> Result<Effect, AllocError>
+    ensures { IfOk result (λ effect. effect
+        ≡ selected table.now what.now (kept_values table.now filter.now rows.now)) }
+{
+    let kept = kept_values(alloc, table, filter, rows)?;
+    Ok(Effect {
+        reply: told(alloc, table, what, kept)?,
+        writes: Frozen::empty(alloc),
+    })
+}
+
+/// What a statement that binds does with the rows of its table. The error is want of memory.
+fn executed(
+    alloc: Global,
+    table: &TableDef,
+    statement: &Statement,
+    rows: &Rows,
+    write_set: &[Write],
+    format: u16,
+) -> Result<Effect, AllocError>
+    ensures { IfOk result (λ effect. effect ≡ executed table.now statement.now rows.now
+        (table_keys write_set.now) format) }
+{
+    match statement {
+        Statement::Select {
+            what,
+            table: _,
+            filter,
+        } => selected(alloc, table, what, filter, rows),
+        Statement::Insert { table: _, tuples } => {
+            inserted(alloc, table, tuples.as_slice(), rows, write_set, format)
+        }
+        Statement::Update {
+            table: _,
+            sets,
+            filter,
+        } => {
+            let sets = sets.as_slice();
+            updated(alloc, table, sets, filter, rows, write_set, format)
+        }
+        Statement::Delete { table: _, filter } => deleted(alloc, table, filter, rows, write_set),
+        _ => Ok(Effect::refused(alloc, Reply::NotYet)),
+    }
 }

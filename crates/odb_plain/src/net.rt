@@ -1,10 +1,10 @@
 //! What a transaction's writes leave.
-ghost use Rattle.std.specs.Prelude.{◌≡◌, [], ◌∷◌, ◌++◌, nat_lt, is_some, IfOk, OnOk};
+ghost use Rattle.std.specs.Prelude.{◌≡◌, ◌++◌, map, nat_lt, is_some, IfOk, OnOk};
 ghost use Rattle.std.specs.Ordering.{eq_by_cmp};
 ghost use Rattle.std.specs.FinMap.{get, insert};
 ghost use Rattle.odb_model.specs.State.{State, table_key_cmp, table_key_of, after_writes, replay};
 ghost use Rattle.odb_model.specs.Meaning.{different, most_writes};
-ghost use Rattle.odb_model.specs.Transaction.{table_keys, last_writes, net};
+ghost use Rattle.odb_model.specs.Transaction.{table_keys, last_from, last_writes, net};
 ghost use Rattle.odb_plain.specs.Net.{by_table_key};
 
 use odb_model::{Entry, TableKey, Write, Writes};
@@ -37,25 +37,24 @@ pub fn net_writes(
     Ok(Frozen::new(net))
 }
 
-/// Whether a transaction with these writes would have written too many different keys with one
-/// write more.
+/// Whether a transaction with these writes would have written too many different keys with some
+/// writes more.
 ///
-/// Below 4,096 writes it can't have, and takes no memory. From there on it takes memory for the
+/// Up to 4,096 writes in all it can't have, and takes no memory. Behind them it takes memory for the
 /// last write of each key. The error is want of memory.
-pub(crate) fn is_one_too_many(
+pub(crate) fn are_too_many(
     alloc: Global,
     write_set: &[Write],
-    write: &Write,
+    writes: &[Write],
 ) -> Result<bool, AllocError>
-    ensures { IfOk result (λ many. many
-        ≡ nat_lt most_writes
-        (different (table_keys write_set.now ++ table_key_of write.now ∷ []))) }
+    ensures { IfOk result (λ many. many ≡ nat_lt most_writes
+        (different (table_keys write_set.now ++ map table_key_of writes.now))) }
 {
-    if write_set.len() < MOST_WRITES {
+    if writes.len() <= MOST_WRITES && write_set.len() <= MOST_WRITES - writes.len() {
         return Ok(false);
     }
     let mut last = last_writes(alloc, write_set)?;
-    put_last(alloc, &mut last, write)?;
+    put_all_last(alloc, &mut last, writes)?;
     Ok(last.len() > MOST_WRITES)
 }
 
@@ -64,10 +63,23 @@ fn last_writes(alloc: Global, write_set: &[Write]) -> Result<BTreeMap<TableKey, 
     ensures { IfOk result (λ last. by_table_key last.entries ≡ last_writes write_set.now) }
 {
     let mut last = BTreeMap::new(alloc);
-    for write in write_set {
-        put_last(alloc, &mut last, write)?;
-    }
+    put_all_last(alloc, &mut last, write_set)?;
     Ok(last)
+}
+
+/// Puts copies of writes at their table keys, the first of them first.
+fn put_all_last(
+    alloc: Global,
+    last: &mut BTreeMap<TableKey, Write>,
+    writes: &[Write],
+) -> Result<(), AllocError>
+    ensures { OnOk result (by_table_key last.new.entries
+        ≡ last_from (by_table_key last.old.entries) writes.now) }
+{
+    for write in writes {
+        put_last(alloc, last, write)?;
+    }
+    Ok(())
 }
 
 /// Puts a copy of a write at its table key, instead of the one that is there.

@@ -1,5 +1,6 @@
 //! Rows in a map.
 ghost use Rattle.std.specs.Prelude.{◌≡◌, is_some, OnOk, OnErr};
+ghost use Rattle.std.specs.Option.{option_copied};
 ghost use Rattle.std.specs.FinMap as map;
 ghost use Rattle.odb_model.specs.State.{table_key_of, changed};
 
@@ -75,6 +76,13 @@ impl Rows {
         ensures { result ≡ is_some (map.get self.now at.now) }
     {
         self.rows.contains_key(at)
+    }
+
+    /// The row at a table and a key, where there is one. It takes no memory.
+    pub fn get(&self, at: &TableKey) -> Option<&Row>
+        ensures { option_copied result ≡ map.get self.now at.now }
+    {
+        self.rows.get(at)
     }
 
     /// The rows with their table keys, by table and then in key order. It takes no memory.

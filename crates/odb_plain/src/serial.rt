@@ -1,10 +1,11 @@
 //! A transaction that runs alone, as in a serial execution.
-ghost use Rattle.std.specs.Prelude.{◌≡◌, All, IfOk, IsTrue};
+ghost use Rattle.std.specs.Prelude.{◌≡◌, IfOk};
 ghost use Rattle.odb_model.specs.State.{replay};
-ghost use Rattle.odb_model.specs.Meaning.{is_built};
 ghost use Rattle.odb_model.specs.Transaction.{alone};
 
-use crate::{execute, net_writes};
+use crate::execution::execute_on;
+use crate::net_writes;
+use crate::state::{put_all, state_after};
 use odb_model::{Entry, Outcome, Reply, Statement, Writes};
 use odb_values::{Frozen, List};
 use std::alloc::{AllocError, Global};
@@ -19,17 +20,17 @@ pub struct SerialRun {
 }
 
 /// Runs the statements of a transaction one after another on the rows that a history leaves, in a
-/// database of this format. [`crate::is_built`] is the test of the condition on each statement. The history stays as it is.
+/// database of this format. The history stays as it is.
 ///
-/// It costs what [`execute`] costs for each statement, and what [`net_writes`] costs once. The
-/// error is want of memory.
+/// It goes over the history once, and takes memory for all rows that it leaves; then it costs what
+/// [`crate::execute_on`] costs for each statement, and what [`net_writes`] costs once. The error is
+/// want of memory.
 pub fn alone(
     alloc: Global,
     statements: &[Statement],
     history: &[Entry],
     format: u16,
 ) -> Result<SerialRun, AllocError>
-    requires { All (λ statement. IsTrue (is_built statement)) statements.now }
     ensures replies { IfOk result
         (λ run. run.replies ≡ (alone statements.now (replay history.now) format).replies) }
     ensures net { IfOk result
@@ -37,14 +38,16 @@ pub fn alone(
 {
     let mut replies = List::new(alloc);
     let mut write_set = List::new(alloc);
+    let mut rows = state_after(alloc, history, &[])?;
     for statement in statements {
         let Outcome {
             reply,
             writes,
             reads: _,
-        } = execute(alloc, statement, history, write_set.as_slice(), format)?;
+        } = execute_on(alloc, statement, &rows, write_set.as_slice(), format)?;
         replies.reserve()?;
         replies.push(reply);
+        put_all(alloc, &mut rows, writes.as_slice())?;
         write_set.append(writes)?;
     }
     Ok(SerialRun {

@@ -1,5 +1,5 @@
 -- Steps of loops that go through lists.
-use Rattle.std.proofs.Common.{◌≡◌, ℕ, suc, ◌+◌, ◌<◌, ◌≤◌, Bool, true, false, ◌||◌, ◌==◌, cond, List, [], ◌∷◌, ◌++◌, map, reverse, length, take, drop, get_or, refl, sym, ap, subst, ◌∙◌, Option, Some, None, option_map, add-one}
+use Rattle.std.proofs.Common.{◌≡◌, ℕ, ◌+◌, ◌<◌, ◌≤◌, Bool, true, false, ◌||◌, List, [], ◌∷◌, ◌++◌, map, reverse, length, take, drop, get_or, refl, sym, ap, ◌∙◌, Option, Some, None, add-one}
 use Rattle.std.specs.Option.{option_or}
 use Rattle.std.specs.List.{list_any, AllZip}
 use Rattle.std.proofs.Math.Seq.{drop-cons}

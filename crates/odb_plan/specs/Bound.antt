@@ -1,8 +1,7 @@
 -- When a bound statement stands for a statement on rows of a table.
-use Rattle.std.specs.Prelude.{◌≡◌, ℕ, List, map, Option, Some, None, IsSome}
+use Rattle.std.specs.Prelude.{◌≡◌, List, [], map, Option, Some, None, IsSome}
 use Rattle.std.specs.List.{All, AllZip}
 use Rattle.odb_values.specs.declared.value.Value.{Value}
-use Rattle.odb_values.specs.declared.range.Range.{Range}
 use Rattle.odb_model.specs.declared.predicate.Predicate.{Predicate}
 use Rattle.odb_model.specs.declared.statement.What.{What}
 use Rattle.odb_model.specs.declared.statement.What.TheVariants as what
@@ -58,12 +57,16 @@ pub record IsWhere (t : Table) (where_of : Option Predicate) (b : BoundStatement
   pub filter : IsWhereOf t where_of b.filter
   pub range : b.range ≡ range_of t where_of
 
--- each part of it stands for the statement's
+-- each part of it stands for the statement's; where the statement has no such part, the number of
+-- rows is given, nothing is set, and each row is kept
 abbrev pub HasParts : Table → Statement → BoundStatement → Type 0
-HasParts t (Select what table filter) b = IsWhatOf t what b.what × IsWhere t filter b
-HasParts t (Update table sets filter) b = AreSetsOf t sets b.sets × IsWhere t filter b
-HasParts t (Delete table filter) b = IsWhere t filter b
-HasParts t other b = Unit {0}
+HasParts t (Select what table filter) b =
+    IsWhatOf t what b.what × IsWhere t filter b × (b.sets ≡ [])
+HasParts t (Update table sets filter) b =
+    AreSetsOf t sets b.sets × IsWhere t filter b × (b.what ≡ bound.Count)
+HasParts t (Delete table filter) b =
+    IsWhere t filter b × (b.sets ≡ []) × (b.what ≡ bound.Count)
+HasParts t other b = IsWhere t None b × (b.sets ≡ []) × (b.what ≡ bound.Count)
 
 -- the statement isn't refused, and each part stands for its own
 pub record IsBound (t : Table) (st : Statement) (b : BoundStatement) : Type 0 where

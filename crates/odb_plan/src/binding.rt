@@ -23,8 +23,8 @@ pub struct Set {
 pub type Sets = Frozen<Set>;
 
 /// A statement on rows with its names bound to places of its table. Where the statement has no such
-/// part, `what` is the number of rows, `sets` is empty, `filter` is None and `range` is the whole
-/// table. The tuples of an INSERT stay with the statement.
+/// part, `what` is the number of rows, `sets` is empty, `filter` keeps each row and `range` is the
+/// one that no WHERE reads. The tuples of an INSERT stay with the statement.
 #[derive(Debug, Drop)]
 pub struct BoundStatement {
     /// What a SELECT gives of the rows.

@@ -14,7 +14,8 @@ use Rattle.odb_device.proofs.Talking.{adds_none, says_both}
 use Rattle.odb_model.specs.Machine.{Machine}
 use Rattle.odb_model.specs.Play.{Answer, RiseOnly, tells_fault, faults_told, machine_after, text_of_answer}
 use Rattle.odb_system.specs.Durable.{Risen}
-use Rattle.odb_play.specs.Outside.{Passed, LeavesFiles, LeavesOthers, TouchesOnly, RoseBy}
+use Rattle.odb_system.specs.Kept.{Rests}
+use Rattle.odb_play.specs.Outside.{IsStill, Passed, LeavesFiles, LeavesOthers, TouchesOnly, RoseBy}
 use Rattle.odb_play.specs.Part.{IsCaused, IsStep, StepsTaken, EndsAnyhow, EndsSaid, Causes, CausesOfSaid}
 
 -- whatever holds at each moment
@@ -25,12 +26,30 @@ pub passed_then : (old mid new : World) → Passed old mid → Passed mid new �
 passed_then old mid new a b = steps_then (λ m. Unit {0}) old mid new a b
 
 still_passes : (old new : World) → LeavesFiles old new → Passed old new
-still_passes old new still = passes (Files (IsAsIn old)) old new still
+still_passes old new still = passes (IsStill old) old new still
 
 still_then : (old mid new : World) → LeavesFiles old mid → LeavesFiles mid new → LeavesFiles old new
 still_then old mid new a b =
-    steps_then (Files (IsAsIn old)) old mid new a
-    (steps_weaken (Files (IsAsIn mid)) (Files (IsAsIn old)) mid new (λ m as_in g. as_in g ∙ steps_end (Files (IsAsIn old)) old mid a g) b)
+    let there = steps_end (IsStill old) old mid a in
+    steps_then (IsStill old) old mid new a (steps_weaken (IsStill mid) (IsStill old) mid new (λ m is. ((λ g. is.0 g ∙ there.0 g), (λ g. is.1 g ∙ there.1 g))) b)
+
+still_none : (w : World) → LeavesFiles w w
+still_none w = steps_none (IsStill w) w ((λ g. refl), (λ g. refl))
+
+-- calls of the console alone
+pub still_talks : (old new : World) → Talks old new → LeavesFiles old new
+still_talks old new talks =
+    let steps = steps_of_talks old new talks in
+    record {
+      later = steps.later;
+      past = steps.past;
+      told = steps.told;
+      said = steps.said;
+      faults = steps.faults;
+      take_faults = steps.take_faults;
+      say_faults = steps.say_faults;
+      each = λ k from to. ((λ g. talks.files k g from to), (λ g. talks.faults k from to g));
+    }
 
 pub touches_run : (file : ℕ) (P : Option File → Type 0) (old new : World) → Runs file P old new → TouchesOnly file old new
 touches_run file P old new run = steps_weaken (Files (OnlyThis file P old)) (LeavesOthers file old) old new (λ m only g other. (only g).1 other) (steps_of_run file P old new run).0
@@ -110,6 +129,7 @@ module _ (End : List ℕ → World → World → Type 0) (grows : (bytes : List 
           passes = step.passes;
           quiet = step.quiet;
           caused = step.caused;
+          rests = step.rests;
         },
         taken.3,
       )
@@ -142,20 +162,21 @@ pub causes_quiet : (m : Machine) (old new : World) → LeavesFiles old new → S
 causes_quiet m old new still silent = (still, silent ∙ adds_none (present old).said)
 
 -- one step, and calls behind it
-one_step : (m : Machine) (a : Answer) (old mid : World) → Passed old mid → IsQuiet old mid → IsCaused m a old mid → IsStep m a [] old old mid
-one_step m a old mid passed quiet cause = record {
-  reaches = steps_none (Files (IsAsIn old)) old (λ g. refl);
+one_step : (m : Machine) (a : Answer) (old mid : World) → Passed old mid → IsQuiet old mid → IsCaused m a old mid → Rests a.after (present mid) → IsStep m a [] old old mid
+one_step m a old mid passed quiet cause rests = record {
+  reaches = still_none old;
   says = adds_none (present old).said;
   passes = passed;
   quiet = quiet;
   caused = cause;
+  rests = rests;
 }
 
-pub causes_one : (m : Machine) (a : Answer) (old mid new : World) → Passed old mid → IsQuiet old mid → IsCaused m a old mid → LeavesFiles mid new → Causes m (a ∷ []) old new
-causes_one m a old mid new step quiet cause after = (old, mid, one_step m a old mid step quiet cause, after)
+pub causes_one : (m : Machine) (a : Answer) (old mid new : World) → Passed old mid → IsQuiet old mid → IsCaused m a old mid → Rests a.after (present mid) → LeavesFiles mid new → Causes m (a ∷ []) old new
+causes_one m a old mid new step quiet cause rests after = (old, mid, one_step m a old mid step quiet cause rests, after)
 
-pub causes_one_said : (m : Machine) (a : Answer) (old mid new : World) → Passed old mid → IsQuiet old mid → IsCaused m a old mid → LeavesFiles mid new → Says (text_of_answer a) mid new → CausesOfSaid m (a ∷ []) old new
-causes_one_said m a old mid new step quiet cause after said = (old, mid, one_step m a old mid step quiet cause, (after, said))
+pub causes_one_said : (m : Machine) (a : Answer) (old mid new : World) → Passed old mid → IsQuiet old mid → IsCaused m a old mid → Rests a.after (present mid) → LeavesFiles mid new → Says (text_of_answer a) mid new → CausesOfSaid m (a ∷ []) old new
+causes_one_said m a old mid new step quiet cause rests after said = (old, mid, one_step m a old mid step quiet cause rests, (after, said))
 
 -- what the causes tell of the whole of it
 step_passed : (m : Machine) (a : Answer) (bytes : List ℕ) (old before after : World) → IsStep m a bytes old before after → Passed old after

@@ -25,7 +25,7 @@ use Rattle.odb_reply.specs.Telling.{TellsAlone}
 use Rattle.odb_system.specs.Kept.{OpensBy, IsKept, Rests}
 use Rattle.odb_play.specs.Outside.{LeavesOthers, TouchesOnly}
 use Rattle.odb_play.specs.Part.{after_of, IsCaused, Causes, CausesOfSaid, TellAlone, IsHeard, IsPart, IsWhole}
-use Rattle.odb_play.proofs.Outside.{passes, causes_then, causes_then_said, causes_anyhow, causes_quiet, causes_one, causes_one_said, touches_run, touches_talks, touches_then}
+use Rattle.odb_play.proofs.Outside.{passes, still_talks, causes_then, causes_then_said, causes_anyhow, causes_quiet, causes_one, causes_one_said, touches_run, touches_talks, touches_then}
 
 pub said_by-append : (xs ys : List Answer) → said_by (xs ++ ys) ≡ said_by xs ++ said_by ys
 said_by-append xs ys = flat_map-append text_of_answer xs ys
@@ -166,7 +166,7 @@ rests_talks m old new talks rests = rests_still m (present old) (present new) (t
 pub whole_quiet : (m : Machine) (old new : World) → Rests m (present old) → Talks old new → SaysNothing old new → IsWhole m [] old new
 whole_quiet m old new rests talks silent = record {
   only = touches_talks 0 old new talks;
-  causes = causes_quiet m old new (steps_of_talks old new talks) silent;
+  causes = causes_quiet m old new (still_talks old new talks) silent;
   alone = tt;
   running = goes_on_silently IsKept after_of text_of_answer m m [] m old old new (run_none IsKept after_of text_of_answer m old rests.keeps) (steps_of_talks old new talks) silent;
   rests = rests_talks m old new talks rests;
@@ -193,11 +193,11 @@ module _ (m : Machine) (answer : Answer) (P : Option File → Type 0) (old mid :
 
   causes_step : (new : World) → Talks mid new → Causes m (answer ∷ []) old new
   causes_step new talks =
-      causes_one m answer old mid new (passes (LeavesOthers 0 old) old mid only_step) quiet cause (steps_of_talks mid new talks)
+      causes_one m answer old mid new (passes (LeavesOthers 0 old) old mid only_step) quiet cause rests (still_talks mid new talks)
 
   causes_said : (new : World) → Talks mid new → Says (text_of_answer answer) mid new → CausesOfSaid m (answer ∷ []) old new
   causes_said new talks said =
-      causes_one_said m answer old mid new (passes (LeavesOthers 0 old) old mid only_step) quiet cause (steps_of_talks mid new talks) said
+      causes_one_said m answer old mid new (passes (LeavesOthers 0 old) old mid only_step) quiet cause rests (still_talks mid new talks) said
 
   -- its text was not said
   pub line_untold : IsPart m (answer ∷ []) old mid

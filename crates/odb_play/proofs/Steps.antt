@@ -1,6 +1,6 @@
 -- What a step of the machine leaves of its history, and what its reply tells.
 use Rattle.std.proofs.Common.{◌≡◌, inl, inr, ℕ, ◌+◌, ◌≤◌, Bool, true, false, List, [], ◌∷◌, ◌++◌, length, Option, Some, None, refl, sym, ◌∙◌, ap, subst, arith, append_assoc, length-append, eqb-true}
-use Rattle.std.specs.Prelude.{MatchBool, take}
+use Rattle.std.specs.Prelude.{take}
 use Rattle.std.proofs.lemmas.List.{append-nil}
 use Rattle.std.proofs.Math.Seq.{take-append_seam}
 use Rattle.odb_model.specs.declared.write.Write.{Write}
@@ -14,12 +14,11 @@ use Rattle.odb_model.specs.declared.reply.Reply.TheVariants.{Okay, Committed, En
 use Rattle.odb_model.specs.declared.statement.Statement.{Statement}
 use Rattle.odb_model.specs.declared.statement.Statement.TheVariants.{Start, Commit, Select, Insert, Rollback, Update, Delete, CreateDatabank, CreateTable, DropTable, CreateShadow, ShadowOnline, ShadowOffline, ShadowMaster, DropShadow, CreateBackup, BackupReady, DropBackup, Restore}
 use Rattle.odb_model.specs.State.{replay}
-use Rattle.odb_model.specs.Meaning.{is_built}
 use Rattle.odb_model.specs.Transaction.{Executed, open_state, table_keys, net, conflict}
 use Rattle.odb_model.specs.Session.{Session, Idle, Working}
 use Rattle.odb_model.specs.Book.{Book, Seen, by_doubt, next_entry, Decides}
 use Rattle.odb_model.specs.Book as book
-use Rattle.odb_model.specs.Machine.{Machine, with_session, book_of, with_book, behind, with_doubt, history_or_more, writes_made, executed_now, Starts, Executes, Commits, Refuses, UpkeepStep, StatementStep, Step}
+use Rattle.odb_model.specs.Machine.{Machine, with_session, book_of, with_book, behind, with_doubt, history_or_more, writes_made, executed_now, Starts, Executes, Commits, RollsBack, Refuses, UpkeepStep, StatementStep, Step}
 use Rattle.odb_model.specs.Script.{IsRefused}
 use Rattle.odb_model.specs.Play.{Answer, IsAnswer, IsRun, tells_fault}
 use Rattle.odb_model.proofs.Meant.{is_meant}
@@ -117,7 +116,7 @@ leaves_starts m s seen (Working t) reply after step = absurd step
 not_executed : (m : Machine) (st : Statement) (t : List Executed) (r : Reply) → is_meant r ≡ false → r ≡ (executed_now m st t).reply → ⊥
 not_executed m st t r other same = not_meant r st (open_state (length m.history) (writes_made m t) m.history) (table_keys (writes_made m t)) m.format other same
 
--- a SELECT or an INSERT tells of no commit and of no fault
+-- a statement on rows tells of no commit and of no fault
 so_executes : (m : Machine) (st : Statement) (t : List Executed) (seen : Seen) (reply : Reply) (after : Machine) → reply ≡ (executed_now m st t).reply → IsSo seen reply after
 unfolding is_meant
 so_executes m st t seen (Committed k) after same = absurd (not_executed m st t (Committed k) refl same)
@@ -162,6 +161,12 @@ leaves_commits m s seen (Working t) reply after step =
     subst (λ (x : Machine). Leaves m seen reply x) (sym step.2)
     (leaves_decides m s seen m.in_doubt (conflict m.history t m.format) (net (replay m.history) (writes_made m t)) reply step.0 refl step.1)
 
+leaves_rolls_back : (m : Machine) (s : ℕ) (seen : Seen) (o : Session) (reply : Reply) (after : Machine) → RollsBack m s o reply after → Leaves m seen reply after
+leaves_rolls_back m s seen Idle NoTransaction after step = (goes_same m after step, tt)
+leaves_rolls_back m s seen (Working t) Okay after step = (goes_session m s Idle after step, tt)
+leaves_rolls_back m s seen Idle reply after step = absurd step
+leaves_rolls_back m s seen (Working t) reply after step = absurd step
+
 leaves_refuses : (m : Machine) (seen : Seen) (reply : Reply) (after : Machine) → Refuses m reply after → Leaves m seen reply after
 leaves_refuses m seen NotYet after step = (goes_same m after step, tt)
 leaves_refuses m seen Memory after step = (goes_same m after step, tt)
@@ -172,9 +177,9 @@ leaves_runs m s seen Start reply after step = leaves_starts m s seen (m.sessions
 leaves_runs m s seen Commit reply after step = leaves_commits m s seen (m.sessions s) reply after step
 leaves_runs m s seen (Select what table w) reply after step = leaves_executes m s (Select what table w) seen (m.sessions s) reply after step
 leaves_runs m s seen (Insert table tuples) reply after step = leaves_executes m s (Insert table tuples) seen (m.sessions s) reply after step
-leaves_runs m s seen Rollback reply after step = leaves_refuses m seen reply after step
-leaves_runs m s seen (Update table sets w) reply after step = leaves_refuses m seen reply after step
-leaves_runs m s seen (Delete table w) reply after step = leaves_refuses m seen reply after step
+leaves_runs m s seen Rollback reply after step = leaves_rolls_back m s seen (m.sessions s) reply after step
+leaves_runs m s seen (Update table sets w) reply after step = leaves_executes m s (Update table sets w) seen (m.sessions s) reply after step
+leaves_runs m s seen (Delete table w) reply after step = leaves_executes m s (Delete table w) seen (m.sessions s) reply after step
 leaves_runs m s seen (CreateDatabank name) reply after step = leaves_refuses m seen reply after step
 leaves_runs m s seen (CreateTable name columns key bank) reply after step = leaves_refuses m seen reply after step
 leaves_runs m s seen (DropTable name) reply after step = leaves_refuses m seen reply after step
@@ -188,13 +193,8 @@ leaves_runs m s seen (BackupReady name) reply after step = leaves_refuses m seen
 leaves_runs m s seen (DropBackup name) reply after step = leaves_refuses m seen reply after step
 leaves_runs m s seen (Restore bank name) reply after step = leaves_refuses m seen reply after step
 
-either : (b : Bool) (P Q R : Type 0) → (P → R) → (Q → R) → MatchBool b P Q → R
-either true P Q R f g h = f h
-either false P Q R f g h = g h
-
 leaves_step : (m : Machine) (s : ℕ) (st : Statement) (seen : Seen) (reply : Reply) (after : Machine) → Step m (OfSession s st) seen reply after → Leaves m seen reply after
-leaves_step m s st seen reply after step =
-    either (is_built st) (StatementStep m s seen st reply after) (Refuses m reply after) (Leaves m seen reply after) (leaves_runs m s seen st reply after) (leaves_refuses m seen reply after) step
+leaves_step m s st seen reply after step = leaves_runs m s seen st reply after step
 
 leaves_keeps : (m : Machine) (seen : Seen) (reply : Reply) (after : Machine) → UpkeepStep m reply after → Leaves m seen reply after
 leaves_keeps m seen NotYet after step = (goes_same m after step, tt)

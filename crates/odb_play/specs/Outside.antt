@@ -7,9 +7,14 @@ use Rattle.odb_device.specs.Steps.{Steps, Files, IsAsIn}
 abbrev pub Passed : World → World → Type 0
 Passed old new = Steps (λ _. Unit {0}) old new
 
--- from old to new each file is as it was, at every moment, in no call or in several
+-- each file is as it was in that world, and so is its count of faults
+abbrev pub IsStill : World → Moment → Type 0
+IsStill old m = Files (IsAsIn old) m × ((g : ℕ) → m.faults g ≡ faults_of g old)
+
+-- from old to new each file is as it was, and no call on one failed, at every moment, in no call or
+-- in several
 abbrev pub LeavesFiles : World → World → Type 0
-LeavesFiles old new = Steps (Files (IsAsIn old)) old new
+LeavesFiles old new = Steps (IsStill old) old new
 
 -- each file but this one is as it was in that world
 abbrev pub LeavesOthers : ℕ → World → Moment → Type 0

@@ -31,8 +31,9 @@ pub record IsCaused (m : Machine) (answer : Answer) (before after : World) : Typ
   pub writes : StepWrites m answer.reply before after
 
 -- From machine m on, the step of the answer was taken between two moments of a stretch, the last
--- ones of `before` and `after`. At both just these bytes are said since its beginning, until the
--- first each file is as it was, and the counts that the answer tells of rose between them
+-- ones of `before` and `after`. At both just these bytes are said since its beginning; until the
+-- first each file is as it was, and no call on one failed; the counts that the answer tells of rose
+-- between them; and at the second the files rest, as the machine after the step has them
 pub record IsStep (m : Machine) (answer : Answer) (bytes : List ℕ) (old before after : World) :
     Type 0 where
   pub reaches : LeavesFiles old before
@@ -40,11 +41,12 @@ pub record IsStep (m : Machine) (answer : Answer) (bytes : List ℕ) (old before
   pub passes : Passed before after
   pub quiet : IsQuiet before after
   pub caused : IsCaused m answer before after
+  pub rests : Rests answer.after (present after)
 
 -- From machine m on, the steps of the answers were taken one behind another, each where just these
 -- bytes are said behind the one before it: first the given ones, and then the text of the answer
--- before. Between them each file is as it was. At the end, when these are the bytes of the last
--- one, End holds
+-- before. Between them each file is as it was, and no call on one failed. At the end, when these are
+-- the bytes of the last one, End holds
 abbrev pub StepsTaken : (List ℕ → World → World → Type 0)
     → Machine → List ℕ → List Answer → World → World → Type 0
 StepsTaken End m bytes [] old new = End bytes old new
@@ -52,7 +54,8 @@ StepsTaken End m bytes (answer ∷ answers) old new =
     (before : World) × (after : World) × IsStep m answer bytes old before after
     × StepsTaken End answer.after (text_of_answer answer) answers after new
 
--- behind the last one each file is as it was, and anything may have been said
+-- behind the last one each file is as it was and no call on one failed, and anything may have been
+-- said
 abbrev pub EndsAnyhow : List ℕ → World → World → Type 0
 EndsAnyhow bytes old new = LeavesFiles old new
 

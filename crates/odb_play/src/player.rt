@@ -51,7 +51,7 @@ impl Stop {
 }
 
 /// A system, and the front of the line whose end hasn't come yet.
-#[derive(Debug, Drop)]
+#[derive(Drop)]
 pub(crate) struct Player {
     pub(crate) system: System,
     pub(crate) front: Vec<u8>,
@@ -105,18 +105,33 @@ fn head_of(event: &Event) -> Head
     }
 }
 
-/// The answer to a line: whom it names, and the reply.
-fn reply_to<H: Host>(system: &mut System, alloc: Global, host: &mut H, line: &[u8]) -> (Head, Reply)
+/// The answer to a line.
+#[derive(Debug, Drop)]
+struct Response {
+    /// Whom it names.
+    head: Head,
+    reply: Reply,
+}
+
+/// Answers a line, by a step of the system or by a refusal.
+fn reply_to<H: Host>(system: &mut System, alloc: Global, host: &mut H, line: &[u8]) -> Response
     requires durable { IsDurable system.old (file_of 0 (H.world host.old)) }
     ensures answer { (m : Machine) → StandsFor system.old m → Rests m (present (H.world host.old))
-        → Replies line.now m result.0 result.1 system.new (H.world host.old) (H.world host.new) }
+        → Replies line.now m result.head result.reply system.new
+        (H.world host.old) (H.world host.new) }
     ensures run { Runs 0 (HoldsThroughout system.old system.new)
         (H.world host.old) (H.world host.new) }
     ensures durable { IsDurable system.new (file_of 0 (H.world host.new)) }
 {
     match event_of(alloc, line) {
-        Ok(event) => (head_of(&event), system.step(alloc, host, &event)),
-        Err(refusal) => (refusal.head(), refusal.reply()),
+        Ok(event) => Response {
+            head: head_of(&event),
+            reply: system.step(alloc, host, &event),
+        },
+        Err(refusal) => Response {
+            head: refusal.head(),
+            reply: refusal.reply(),
+        },
     }
 }
 
@@ -136,8 +151,8 @@ fn answer<H: Host>(
     ensures cause { result ≡ Err Stop.WriteFault
         → SayCountRose (H.world host.old) (H.world host.new) }
 {
-    let (head, reply) = reply_to(system, alloc, host, line);
-    let Ok(text) = print_reply(alloc, head, &reply) else {
+    let response = reply_to(system, alloc, host, line);
+    let Ok(text) = print_reply(alloc, response.head, &response.reply) else {
         return Err(Stop::NoMemory);
     };
     match say_all(host, text.as_slice()) {
@@ -152,8 +167,10 @@ impl Player {
         requires durable { IsDurable self.old.system (file_of 0 (H.world host.old)) }
         ensures bytes { (m : Machine) (input : List ℕ) (answers : List Answer)
             → IsAt m self.old.system self.old.front.items input answers (H.world host.old)
-            → HasNoLf part.now → BytesEnd m self.new.system self.new.front.items (input ++ (part.now ++ LF ∷ []))
-            answers result (H.world host.old) (H.world host.new) }
+            → HasNoLf part.now
+            → BytesEnd m self.new.system self.new.front.items
+            (input ++ (part.now ++ LF ∷ [])) answers result
+            (H.world host.old) (H.world host.new) }
         ensures durable { IsDurable self.new.system (file_of 0 (H.world host.new)) }
         ensures only { TouchesOnly 0 (H.world host.old) (H.world host.new) }
         ensures input { TakesNothing (H.world host.old) (H.world host.new) }

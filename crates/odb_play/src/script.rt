@@ -54,22 +54,30 @@ pub fn play<H: Host>(alloc: Global, host: &mut H) -> Status
         → SayCountRose (H.world host.old) (H.world host.new) }
 {
     match open_player(alloc, host) {
-        Ok((mut player, mut piece)) => play_on(alloc, host, &mut player, piece.as_mut_slice()),
+        Ok(mut ready) => play_on(alloc, host, &mut ready.player, ready.piece.as_mut_slice()),
         Err(status) => status,
     }
 }
 
+/// What a script is played with.
+#[derive(Drop)]
+struct Ready {
+    player: Player,
+    /// Room for a piece of the input.
+    piece: Vec<u8>,
+}
+
 /// A player that has answered nothing, with the entries that TRANSDB holds as its history, and room
 /// for a piece of the input.
-fn open_player<H: Host>(alloc: Global, host: &mut H) -> Result<(Player, Vec<u8>), Status>
+fn open_player<H: Host>(alloc: Global, host: &mut H) -> Result<Ready, Status>
     ensures run { OpensAsBefore (H.world host.old) (H.world host.new) }
     ensures bytes { OnlyClosesGates (H.world host.old) (H.world host.new) }
     ensures refused { IfErr result
         (λ status. IsRefused status (H.world host.old) (H.world host.new)) }
     ensures started { IfOk result
-        (λ r. IsStarted r.0.system (H.world host.old) (H.world host.new)) }
-    ensures front { IfOk result (λ r. r.0.front.items ≡ []) }
-    ensures room { IfOk result (λ r. 0 < length r.1.items) }
+        (λ ready. IsStarted ready.player.system (H.world host.old) (H.world host.new)) }
+    ensures front { IfOk result (λ ready. ready.player.front.items ≡ []) }
+    ensures room { IfOk result (λ ready. 0 < length ready.piece.items) }
     ensures refusal { IfErr result RefusesOpening }
     ensures opened { IfSome (file_of 0 (H.world host.old))
         (λ f. IfErr result (λ status. IsOpeningOf status (opened f.bytes))) }
@@ -83,7 +91,8 @@ fn open_player<H: Host>(alloc: Global, host: &mut H) -> Result<(Player, Vec<u8>)
     let Ok(piece) = vec![in alloc; 0u8; PIECE] else {
         return Err(Status::NoMemory);
     };
-    Ok((Player { system, front }, piece))
+    let player = Player { system, front };
+    Ok(Ready { player, piece })
 }
 
 /// Plays the whole script, in pieces that fit the buffer.

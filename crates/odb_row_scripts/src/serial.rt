@@ -3,7 +3,7 @@
 use crate::replies::first_line;
 use crate::stop::{Stop, wrong};
 use odb_model::{Entry, Event, Head, Reply, Statement, Write, Writes};
-use odb_plain::{SerialRun, alone, is_built};
+use odb_plain::{SerialRun, alone};
 use odb_play::event_of;
 use odb_reply::print_reply;
 use odb_rowfile::number_of;
@@ -28,6 +28,8 @@ enum Part {
     Start,
     /// It ends the transaction.
     Commit,
+    /// It ends the transaction without a trace.
+    Rollback,
     /// It runs in the transaction.
     Inside,
 }
@@ -117,6 +119,9 @@ impl Sessions<'_> {
         match part_of(alloc, line) {
             Some((session, Part::Start)) => self.started(alloc, session, after_head(reply)),
             Some((session, Part::Commit)) => self.ended(alloc, session, after_head(reply)),
+            Some((session, Part::Rollback)) => {
+                self.rolled_back(alloc, session, after_head(reply))
+            }
             Some((session, Part::Inside)) => Ok(self.asked(session, line, reply)?),
             None => Ok(()),
         }
@@ -176,6 +181,20 @@ impl Sessions<'_> {
         }
         let transaction = self.open.swap_remove(at);
         self.compare(alloc, &transaction, committed, ended)
+    }
+
+    /// The reply to ROLLBACK.
+    fn rolled_back(&mut self, alloc: Global, session: u32, text: &[u8]) -> Result<(), Stop> {
+        if text != b"OK\n".as_slice() {
+            return Ok(());
+        }
+        let Some(at) = self.place_of(session) else {
+            return Err(self.wrong(alloc, "a ROLLBACK of no transaction is answered"));
+        };
+        if at < self.open.len() {
+            let _over = self.open.swap_remove(at);
+        }
+        Ok(())
     }
 
     /// The transaction was answered COMMITTED or ENDED with such a number, or is over without one.
@@ -255,10 +274,7 @@ impl Sessions<'_> {
         history: &[Entry],
     ) -> Result<Writes, Stop> {
         let statements = statements_of(alloc, transaction.lines.as_slice())?;
-        let Some(ran) = ran_alone(alloc, statements.as_slice(), history)? else {
-            return Err(self.wrong(alloc, "a statement that isn't built ran"));
-        };
-        let SerialRun { replies, net } = ran;
+        let SerialRun { replies, net } = ran_alone(alloc, statements.as_slice(), history)?;
         self.compare_said(alloc, transaction, replies.as_slice())?;
         Ok(net)
     }
@@ -278,16 +294,14 @@ impl Sessions<'_> {
     }
 }
 
-/// What statements answer and leave, run alone; None where one isn't built.
+/// What statements answer and leave, run alone. It has no clause, so that none is known of what is
+/// made of it.
 fn ran_alone(
     alloc: Global,
     statements: &[Statement],
     history: &[Entry],
-) -> Result<Option<SerialRun>, AllocError> {
-    if !statements.iter().all(|statement| is_built(statement)) {
-        return Ok(None);
-    }
-    Ok(Some(alone(alloc, statements, history, FORMAT)?))
+) -> Result<SerialRun, AllocError> {
+    alone(alloc, statements, history, FORMAT)
 }
 
 /// The session of a line, and what its statement is to a transaction.
@@ -319,7 +333,11 @@ fn part_by(statement: &Statement) -> Option<Part> {
     match statement {
         Statement::Start => Some(Part::Start),
         Statement::Commit => Some(Part::Commit),
-        _ if is_built(statement) => Some(Part::Inside),
+        Statement::Rollback => Some(Part::Rollback),
+        Statement::Select { .. }
+        | Statement::Insert { .. }
+        | Statement::Update { .. }
+        | Statement::Delete { .. } => Some(Part::Inside),
         _ => None,
     }
 }

@@ -110,7 +110,7 @@ AreAscending-put_all (w ∷ vs) intentions there h =
     AreAscending-put_all vs (put intentions w (there (table_key_of w))) there (AreAscending-put intentions w (there (table_key_of w)) h)
 
 -- a transaction's intentions are its writes put one after another
-intentions-put : (h : List Entry) (t : List Executed) (format : ℕ) → intentions_of h t format ≡ put_all [] (write_set_of h t format) (was_there_from h [] t format)
+pub intentions-put : (h : List Entry) (t : List Executed) (format : ℕ) → intentions_of h t format ≡ put_all [] (write_set_of h t format) (was_there_from h [] t format)
 intentions-put h t format =
     let F : TableKey → Bool = was_there_from h [] t format in
     sym (put_all-by_key F (write_set_of h t format) empty F (λ at e none. refl))

@@ -21,7 +21,7 @@ use Rattle.odb_transdb.specs.Header.{first_held}
 use Rattle.odb_transdb.specs.Opened.{Holds, holding, entries_in}
 use Rattle.odb_transdb.specs.Standing.{Db, Stands}
 use Rattle.odb_transdb.specs.Answers.{HoldsAll}
-use Rattle.odb_transdb.specs.Worlds.{WritesFromGate, WritesBehindGate}
+use Rattle.odb_transdb.specs.Worlds.{WritesFromGate, WritesRecord, WritesBehindGate}
 use Rattle.odb_system.specs.Held.{Held, StandsFor, Begins, Follows, sides_of, told_by}
 use Rattle.odb_system.specs.Durable.{history_or_more_of, HoldsThroughout, IsDurableBy, IsDurable, CausedBy, Risen, HeldWritesWithin, HeldWrites}
 use Rattle.odb_system.specs.Kept.{OpensBy, IsKept, Rests, RoseFromGate, IsDoubtCaused, WritesWithinLog, StepWrites, Stepped}
@@ -148,7 +148,7 @@ within_log Bounds m before old new stands written = record {
 }
 
 step_written : (m : Machine) (reply : Reply) (before : Held) (old new : World) → StandsFor before m → HeldWrites before reply old new → StepWrites m reply old new
-step_written m (Committed k) before old new stands written = within_log WritesFromGate m before old new stands written
+step_written m (Committed k) before old new stands written = within_log WritesRecord m before old new stands written
 step_written m (Fault f) before old new stands written = within_log WritesBehindGate m before old new stands written
 step_written m (InDoubt k) before old new stands written = within_log WritesFromGate m before old new stands written
 step_written m reply before old new stands same = same

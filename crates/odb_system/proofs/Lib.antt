@@ -1,3 +1,6 @@
+mod Owned
+mod Oldest
+mod Items
 mod Sealing
 mod Resting
 mod Simulates

@@ -3,16 +3,19 @@ use Rattle.std.proofs.Common.{◌≡◌, false, ℕ, ◌+◌, ◌-◌, ◌≤◌
 use Rattle.std.specs.Prelude.{◌⊎◌, slice_set, is_some, IfSome}
 use Rattle.std.specs.List.{All}
 use Rattle.std.proofs.lemmas.List.{drop-append-le, length-set}
-use Rattle.std.proofs.lemmas.List.Elements.{All-set}
+use Rattle.std.proofs.lemmas.List.Elements.{All-nil, All-cons, All-append, All-set}
 use Rattle.std.proofs.lemmas.List.Sums.{sum_by-append, sum_by-cons}
 use Rattle.odb_device.specs.World.{File, World, file_of}
 use Rattle.odb_device.specs.Images.{EachImage}
 use Rattle.odb_device.specs.Moments.{Runs}
 use Rattle.odb_device.proofs.Time.{weakens, run_end}
 use Rattle.odb_model.specs.declared.entry.Entry.{Entry}
-use Rattle.odb_model.specs.State.{IsHistory}
+use Rattle.odb_model.specs.State.{IsHistory, after_writes, replay}
+use Rattle.odb_model.specs.Storable.{HaveKeys}
 use Rattle.odb_model.specs.Sides.{room_left, active_first as first_of_active}
 use Rattle.odb_model.specs.Width.{entry_width, record_width, records_width}
+use Rattle.std.specs.FinMap.{empty}
+use Rattle.odb_model.proofs.Replay.{replay_from-append}
 use Rattle.odb_model.proofs.Runs.{IsNumberedFrom-snoc}
 use Rattle.odb_codec.specs.Image.{HasImage, entry_image}
 use Rattle.odb_codec.specs.Reading.{read_entry}
@@ -25,7 +28,10 @@ use Rattle.odb_transdb.specs.Opened.{Holds, entries_in}
 use Rattle.odb_transdb.specs.Standing.{Db, IsPlaced, IsAdvanced, IsSettledIn, Stands, room_of}
 use Rattle.odb_transdb.specs.Answers.{IsForceAnswer, HoldsAll, HoldsAllOrMore}
 use Rattle.odb_transdb.specs.Worlds.{RoseAtGate}
-use Rattle.odb_system.specs.Held.{Open, Held, IsOpen, none_open, sides_of, Begins, IsAsDoubted, IsHeld}
+use Rattle.odb_keytable.specs.Committed.{Committed}
+use Rattle.odb_txn.specs.Transaction.{Kept}
+use Rattle.odb_system.specs.Open.{IsOpen}
+use Rattle.odb_system.specs.Held.{Held, none_open, sides_of, Begins, IsAsDoubted, IsHeld, AreRowsOf}
 use Rattle.odb_system.specs.Durable.{history_or_more_of, IsDurable, IsDurableBy, HoldsEither, HoldsThroughout, DoubtedAtGate}
 
 -- the room of a log is what the records of the history leave of the active side
@@ -173,20 +179,35 @@ durable_either held after e old new some same header run =
         (subst (λ (h : Header). Holds h held.history image ⊎ Holds h (history_or_more_of after) image) (sym header) (holds image is))
 
 -- the session at a place becomes idle
-pub idle_held : (xs : List (Option Open)) (at : ℕ) → length xs ≡ 64 → All IsOpen xs → (length (slice_set xs at none_open) ≡ 64) × All IsOpen (slice_set xs at none_open)
+pub idle_held : (xs : List (Option Kept)) (at : ℕ) → length xs ≡ 64 → All IsOpen xs → (length (slice_set xs at none_open) ≡ 64) × All IsOpen (slice_set xs at none_open)
 idle_held xs at count each = (length-set xs at none_open ∙ count, All-set IsOpen xs at none_open tt each)
+
+-- the keys of a history with its next entry
+keyed_next : (h : List Entry) (e : Entry) → All (λ x. HaveKeys x.writes) h → HaveKeys e.writes → All (λ x. HaveKeys x.writes) (h ++ e ∷ [])
+keyed_next h e all keys =
+    let IsKeyedEntry : Entry → Type 0 = λ x. HaveKeys x.writes in
+    All-append IsKeyedEntry h (e ∷ []) all (All-cons IsKeyedEntry e [] keys (All-nil IsKeyedEntry))
+
+-- and its rows, of which one entry more waits
+pub rows_next : (h grown : List Entry) (e placed : Entry) (rows after : Committed) → AreRowsOf h rows → grown ≡ h ++ e ∷ [] → placed ≡ e
+    → after ≡ record { state = after_writes rows.state placed.writes; waiting = rows.waiting + 1 } → AreRowsOf grown after
+rows_next h grown e placed rows after are is same pushed = subst (AreRowsOf grown) (sym pushed) (record {
+  state = ap (λ s. after_writes s placed.writes) are.state ∙ ap (λ (x : Entry). after_writes (replay h) x.writes) same ∙ sym (ap replay is ∙ replay_from-append empty h (e ∷ []));
+  waiting = omega (arith, are.waiting, ap length is, length-append h (e ∷ []));
+})
 
 -- a system after a commit, in which the entry is the history's next
 pub held_next : (held : Held) (new : Db) (e : Entry) (at n : ℕ) (d : Option Entry) → IsHeld held → held.in_doubt ≡ None → d ≡ None → IsPlaced new → e.number ≡ length held.history + 1
-    → n ≡ entry_width e → IsAdvanced (13 + n) held.transdb new
+    → HaveKeys e.writes → n ≡ entry_width e → IsAdvanced (13 + n) held.transdb new
     → IsHeld (record { history = held.history ++ e ∷ []; sessions = slice_set held.sessions at none_open; transdb = new; in_doubt = d })
-held_next held new e at n d is settled none placed number width on =
+held_next held new e at n d is settled none placed number keys width on =
     let begins = begins_of held settled is in
     let idle = idle_held held.sessions at is.count is.each in
     record {
       count = idle.0;
       numbered = history_grows held.history e is.numbered number;
       log = subst (IsAsDoubted new (held.history ++ e ∷ [])) (sym none) (begins_next held.transdb new held.history e n begins placed number width on);
+      keyed = keyed_next held.history e is.keyed keys;
       each = idle.1;
     }
 
@@ -200,6 +221,7 @@ held_doubted held new e at is settled header number =
       count = idle.0;
       numbered = is.numbered;
       log = (is.numbered, ap first_held header ∙ begins.first, number);
+      keyed = is.keyed;
       each = idle.1;
     }
 
@@ -210,6 +232,7 @@ held_again held new before after is settled placed kept = record {
   count = is.count;
   numbered = is.numbered;
   log = subst (IsAsDoubted new held.history) (sym settled) (begins_again held.transdb new held.history before after (begins_of held settled is) placed kept);
+  keyed = is.keyed;
   each = is.each;
 }
 

@@ -1,6 +1,6 @@
 -- Each change of what a system holds is a step of the machine that it stands for.
 use Rattle.std.proofs.Common.{◌≡◌, ◌≢◌, ℕ, ◌+◌, ◌-◌, ◌<◌, Bool, true, false, ◌==◌, cond, List, [], ◌∷◌, ◌++◌, length, replicate, refl, sym, ap, subst, ◌∙◌, Option, Some, None, arith, zero, suc, append_assoc, add_comm, inl, inr}
-use Rattle.std.specs.Prelude.{slice_get, slice_set, unwrap_or, MatchBool}
+use Rattle.std.specs.Prelude.{slice_get, slice_set, unwrap_or}
 use Rattle.std.proofs.lemmas.List.{append-nil, length-set}
 use Rattle.std.proofs.lemmas.Bool.{eqb-true}
 use Rattle.std.proofs.lemmas.Bool.Decides.{eqb_tells}
@@ -10,27 +10,35 @@ use Rattle.odb_model.specs.declared.entry.Entry.{Entry}
 use Rattle.odb_model.specs.declared.control.Control.{Control as Upkeep}
 use Rattle.odb_model.specs.declared.event.Event.TheVariants.{Session as OfSession, Control as OfUpkeep}
 use Rattle.odb_model.specs.declared.reply.Reply.{Reply}
-use Rattle.odb_model.specs.declared.outcome.Read.{Read}
+use Rattle.odb_model.specs.declared.outcome.Outcome.{Outcome}
 use Rattle.odb_model.specs.declared.reply.Reply.TheVariants.{Okay, InDoubt, NotYet, NoTransaction, InTransaction, Fault, Memory, Committed}
 use Rattle.odb_model.specs.declared.statement.Statement.{Statement}
 use Rattle.odb_model.specs.declared.statement.Statement.TheVariants.{Start, Commit, Select, Insert, Rollback, Update, Delete, CreateDatabank, CreateTable, DropTable, CreateShadow, ShadowOnline, ShadowOffline, ShadowMaster, DropShadow, CreateBackup, BackupReady, DropBackup, Restore}
 use Rattle.odb_model.specs.State.{after_writes, replay, IsHistory}
-use Rattle.odb_model.specs.Meaning.{Meaning, is_built}
+use Rattle.odb_model.specs.Meaning.{Meaning, meaning}
 use Rattle.odb_model.specs.Reads.{reads}
-use Rattle.odb_model.specs.Transaction.{Executed, table_keys, meaning_over, open_state, open_meaning, write_set_with, write_set_from, write_set_of, read_at, reads_from, reads_of}
+use Rattle.odb_model.specs.Transaction.{Executed, meaning_over, open_state, open_meaning, write_set_of, reads_of, net, first_conflict, conflict}
+use Rattle.odb_model.specs.Intentions.{intended}
 use Rattle.odb_model.specs.Script.{IsSession}
 use Rattle.odb_model.specs.Session.{Session, Idle, Working}
-use Rattle.odb_model.specs.Book.{Book, Seen, Verdict, judged, verdict, next_entry, Decides, ends_transaction}
+use Rattle.odb_model.specs.Book.{Book, Seen, Verdict, by_net, by_doubt, verdict, next_entry, Decides, ends_transaction}
 use Rattle.odb_model.specs.Book as book
-use Rattle.odb_model.specs.Machine.{Machine, first_machine, with_session, book_of, with_book, behind, writes_made, executed_now, Starts, Executes, Commits, Refuses, StatementStep, Step}
+use Rattle.odb_model.specs.Machine.{Machine, first_machine, with_session, book_of, with_book, behind, writes_made, executed_now, Starts, Executes, Commits, RollsBack, StatementStep, Step}
 use Rattle.odb_model.specs.Serial.{SessionAnsweredFromSnapshots, AnsweredFromSnapshots}
 use Rattle.odb_model.proofs.Meant.{is_meant}
-use Rattle.odb_model.proofs.Runs.{Grows, decides_grow, write_set_from-more, reads_from-more, answered_first, answered_step, not_meant, IsNumberedFrom-snoc}
+use Rattle.odb_model.proofs.Runs.{Grows, decides_grow, answered_first, answered_step, not_meant, IsNumberedFrom-snoc}
 use Rattle.odb_model.proofs.Runs as model_runs
 use Rattle.odb_device.specs.World.{World}
 use Rattle.odb_transdb.specs.declared.header.Header.{Header}
 use Rattle.odb_transdb.specs.Standing.{Db}
-use Rattle.odb_system.specs.Held.{Open, Held, none_open, session_at, with_open, book_in, meaning_in, grown, told_by, verdict_in, IsDecided, HeldStarts, HeldExecutes, HeldCommits, HeldRuns, sides_of, open_of, open_in, StandsFor, HasCauses, Follows}
+use Rattle.odb_rowsource.specs.Intentions.{laid_over}
+use Rattle.odb_exec.specs.Written.{keys_written}
+use Rattle.odb_txn.specs.Transaction.{Kept, nothing_kept, IsNextOutcome, StandsFor as StandsForTransaction}
+use Rattle.odb_txn.proofs.Alike.{conflict_alike}
+use Rattle.odb_txn.proofs.Stands.{stands_begin, stands_grow, stands_last, stands_net}
+use Rattle.odb_txn.proofs.Counted.{means_now, laid_now}
+use Rattle.odb_system.specs.Open.{outcome_on, grown_on, Shows}
+use Rattle.odb_system.specs.Held.{Held, none_open, session_at, with_open, book_in, meaning_in, grown, told_by, verdict_in, IsDecided, HeldStarts, HeldRollsBack, HeldExecutes, HeldCommits, HeldRuns, sides_of, StandsFor, HasCauses, Follows}
 use Rattle.odb_device.proofs.Time.{rose_behind}
 use Rattle.odb_system.specs.Durable.{Risen, FaultRose, CausedBy, HeldWrites}
 
@@ -47,62 +55,44 @@ slice_get-set_other (y ∷ xs) (suc i) zero x other = refl
 slice_get-set_other (y ∷ xs) (suc i) (suc j) x other = slice_get-set_other xs i j x (λ same. other (ap suc same))
 
 -- each session's place shows what the machine has of it
-abbrev Shows : List (Option Open) → List Entry → ℕ → (ℕ → Session) → Type 0
-Shows xs h format sessions = (s : ℕ) → IsSession s → slice_get xs (s - 1) ≡ Some (open_in h format (sessions s))
+abbrev ShowAll : List (Option Kept) → List Entry → ℕ → (ℕ → Session) → Type 0
+ShowAll xs h format sessions = (s : ℕ) → IsSession s → Shows h format s (unwrap_or (slice_get xs (s - 1)) None) (sessions s)
 
-shows_with : (xs : List (Option Open)) (m : Machine) (s : ℕ) (t : Session) → length xs ≡ 64 → IsSession s → Shows xs m.history m.format m.sessions
-    → Shows (slice_set xs (s - 1) (open_in m.history m.format t)) m.history m.format (with_session m s t).sessions
-shows_with xs m s t count in_range shows q is =
-    let new : Option Open = open_in m.history m.format t in
-    elim (eqb_tells q s) as (λ w. slice_get (slice_set xs (s - 1) new) (q - 1) ≡ Some (open_in m.history m.format (cond (q == s) t (m.sessions q)))) [
+shows_with : (xs : List (Option Kept)) (m : Machine) (s : ℕ) (x : Option Kept) (t : Session) → length xs ≡ 64 → IsSession s → ShowAll xs m.history m.format m.sessions
+    → Shows m.history m.format s x t → ShowAll (slice_set xs (s - 1) x) m.history m.format (with_session m s t).sessions
+shows_with xs m s x t count in_range shows here q is =
+    let put : List (Option Kept) = slice_set xs (s - 1) x in
+    elim (eqb_tells q s) as (λ w. Shows m.history m.format q (unwrap_or (slice_get put (q - 1)) None) (cond (q == s) t (m.sessions q))) [
       | inl same ↦
           let place : q - 1 ≡ s - 1 = omega arith in
           let within : s - 1 < length xs = omega arith in
-          ap (slice_get (slice_set xs (s - 1) new)) place
-          ∙ slice_get-set_same xs (s - 1) new within
-          ∙ ap (λ b. Some (open_in m.history m.format (cond b t (m.sessions q)))) (sym same.0)
+          let found : unwrap_or (slice_get put (q - 1)) None ≡ x = ap (λ o. unwrap_or o None) (ap (slice_get put) place ∙ slice_get-set_same xs (s - 1) x within) in
+          let of_q : Shows m.history m.format q x t = subst (λ (k : ℕ). Shows m.history m.format k x t) (sym same.1) here in
+          subst (λ (o : Option Kept). Shows m.history m.format q o (cond (q == s) t (m.sessions q))) (sym found)
+          (subst (λ (b : Bool). Shows m.history m.format q x (cond b t (m.sessions q))) (sym same.0) of_q)
       | inr other ↦
           let apart : q - 1 ≢ s - 1 = λ e. other.1 (omega arith) in
-          slice_get-set_other xs (s - 1) (q - 1) new apart
-          ∙ shows q is
-          ∙ ap (λ b. Some (open_in m.history m.format (cond b t (m.sessions q)))) (sym other.0)
+          let found : unwrap_or (slice_get put (q - 1)) None ≡ unwrap_or (slice_get xs (q - 1)) None = ap (λ o. unwrap_or o None) (slice_get-set_other xs (s - 1) (q - 1) x apart) in
+          subst (λ (o : Option Kept). Shows m.history m.format q o (cond (q == s) t (m.sessions q))) (sym found)
+          (subst (λ (b : Bool). Shows m.history m.format q (unwrap_or (slice_get xs (q - 1)) None) (cond b t (m.sessions q))) (sym other.0) (shows q is))
     ]
 
-write_set_from-snoc : (h : List Entry) (write_set : List Write) (t : List Executed) (a : Executed) (format : ℕ)
-    → write_set_from h write_set (t ++ a ∷ []) format ≡ write_set_with h (write_set_from h write_set t format) a format
-write_set_from-snoc h write_set [] a format = refl
-write_set_from-snoc h write_set (x ∷ t) a format = write_set_from-snoc h (write_set_with h write_set x format) t a format
+-- what is kept of a session stands for it behind a longer history too
+shows_longer : (h more : List Entry) (format s : ℕ) (x : Option Kept) (o : Session) → SessionAnsweredFromSnapshots h o format → Shows h format s x o → Shows (h ++ more) format s x o
+shows_longer h more format s None Idle f shows = tt
+shows_longer h more format s None (Working t) f shows = absurd shows
+shows_longer h more format s (Some kept) Idle f shows = absurd shows
+shows_longer h more format s (Some kept) (Working t) f shows = (shows.0, stands_last kept h more t format f shows.1)
 
--- what a statement reads where the history is its snapshot
-abbrev reads_now : List Entry → List Write → Executed → List Read
-reads_now h write_set a = read_at a.snapshot (reads a.statement (open_state a.snapshot write_set h))
-
-reads_from-snoc : (h : List Entry) (write_set : List Write) (t : List Executed) (a : Executed) (format : ℕ)
-    → reads_from h write_set (t ++ a ∷ []) format ≡ reads_from h write_set t format ++ reads_now h (write_set_from h write_set t format) a
-reads_from-snoc h write_set [] a format = append-nil (reads_now h write_set a)
-reads_from-snoc h write_set (x ∷ t) a format =
-    let more : List Write = write_set_with h write_set x format in
-    ap (λ rs. reads_now h write_set x ++ rs) (reads_from-snoc h more t a format)
-    ∙ sym (append_assoc (reads_now h write_set x) (reads_from h more t format) (reads_now h (write_set_from h more t format) a))
-
--- a longer history leaves what an open transaction has read and written
-same_open : (h g : List Entry) (o : Session) (format : ℕ) → SessionAnsweredFromSnapshots h o format → open_in (h ++ g) format o ≡ open_in h format o
-same_open h g Idle format f = refl
-same_open h g (Working t) format f =
-    ap (λ rs. Some (record { reads = rs; write_set = write_set_of (h ++ g) t format })) (reads_from-more h g [] t format f)
-    ∙ ap (λ write_set. Some (record { reads = reads_of h t format; write_set = write_set })) (write_set_from-more h g [] t format f)
+-- a verdict doesn't ask for the writes of a transaction that conflicts, or while an entry is in doubt
+same_verdict : (d : Option Entry) (later : Option ℕ) (n : ℕ) (ws vs : List Write) → (later ≡ None → ws ≡ vs) → by_doubt d later n ws ≡ by_doubt d later n vs
+same_verdict (Some e) later n ws vs same = refl
+same_verdict None (Some j) n ws vs same = refl
+same_verdict None None n ws vs same = ap (by_net n) (same refl)
 
 -- what a system holds that has the machine's history and entry in doubt
-abbrev held_of : Machine → List (Option Open) → Db → Held
+abbrev held_of : Machine → List (Option Kept) → Db → Held
 held_of m xs db = record { history = m.history; sessions = xs; transdb = db; in_doubt = m.in_doubt }
-
-chosen : (b : Bool) (P Q : Type 0) → b ≡ true → P → MatchBool b P Q
-chosen true P Q e p = p
-chosen false P Q e p = cc
-
-refused_by : (b : Bool) (P Q : Type 0) → b ≡ false → Q → MatchBool b P Q
-refused_by true P Q e q = cc
-refused_by false P Q e q = q
 
 caused : (reply : Reply) (old new : World) → FaultRose reply old new → HasCauses (Risen old new) (told_by reply)
 caused (Fault f) old new rose = record { rose_has = λ file risen. subst (Risen old new) (sym (eqb-true file f risen)) rose; before_has = λ e. subst (Risen old new) (eqb-true f 0 e) rose; at_has = λ e. cc }
@@ -133,66 +123,87 @@ commit_runs : (m : Machine) (s : ℕ) (seen : Seen) (t : List Executed) (reply :
 commit_runs m s seen t Memory b e decides = absurd (no_memory (book_of m) seen s (verdict (book_of m) t m.format) b decides)
 commit_runs m s seen t reply b e decides = subst (λ (o : Session). Commits m s seen o reply (behind m s reply b)) (sym e) (b, decides, refl)
 
-module _ (m : Machine) (s : ℕ) (in_range : IsSession s) (xs : List (Option Open)) (db : Db) (count : length xs ≡ 64)
-    (shows : Shows xs m.history m.format m.sessions) (sides : m.sides ≡ sides_of db.header) (format : m.format ≡ db.header.format) (answered : AnsweredFromSnapshots m) where
+module _ (m : Machine) (s : ℕ) (in_range : IsSession s) (xs : List (Option Kept)) (db : Db) (count : length xs ≡ 64)
+    (shows : ShowAll xs m.history m.format m.sessions) (sides : m.sides ≡ sides_of db.header) (format : m.format ≡ db.header.format) (answered : AnsweredFromSnapshots m) where
+  abbrev now : Held
+  now = held_of m xs db
+
   -- the machine goes on to the one with this session
-  goes_with : (st : Statement) (reply : Reply) (t : Session) (held : Held) → is_built st ≡ true → StatementStep m s (told_by reply) st reply (with_session m s t)
-      → held ≡ with_open (held_of m xs db) (s - 1) (open_in m.history m.format t) → Goes m s st reply held
-  goes_with st reply t held built runs same =
-      let step : Step m (OfSession s st) (told_by reply) reply (with_session m s t) = chosen (is_built st) (StatementStep m s (told_by reply) st reply (with_session m s t)) (Refuses m reply (with_session m s t)) built runs in
-      let stands : StandsFor (with_open (held_of m xs db) (s - 1) (open_in m.history m.format t)) (with_session m s t) = record {
+  goes_with : (st : Statement) (reply : Reply) (x : Option Kept) (t : Session) (held : Held) → StatementStep m s (told_by reply) st reply (with_session m s t)
+      → Shows m.history m.format s x t → held ≡ with_open now (s - 1) x → Goes m s st reply held
+  goes_with st reply x t held step here same =
+      let stands : StandsFor (with_open now (s - 1) x) (with_session m s t) = record {
         history = refl;
         sides = sides;
         in_doubt = refl;
         format = format;
-        count = length-set xs (s - 1) (open_in m.history m.format t) ∙ count;
-        each = shows_with xs m s t count in_range shows;
+        count = length-set xs (s - 1) x ∙ count;
+        each = shows_with xs m s x t count in_range shows here;
         answered = answered_step m s st (told_by reply) reply (with_session m s t) answered step;
       } in
-      record { after = with_session m s t; step = step; stands = subst (λ (x : Held). StandsFor x (with_session m s t)) (sym same) stands }
+      record { after = with_session m s t; step = step; stands = subst (λ (h : Held). StandsFor h (with_session m s t)) (sym same) stands }
 
-  stands_now : StandsFor (held_of m xs db) m
+  stands_now : StandsFor now m
   stands_now = record { history = refl; sides = sides; in_doubt = refl; format = format; count = count; each = shows; answered = answered }
 
   -- the machine stays
-  stays : (st : Statement) (reply : Reply) (held : Held) → Step m (OfSession s st) (told_by reply) reply m → held ≡ held_of m xs db → Goes m s st reply held
-  stays st reply held step same = record { after = m; step = step; stands = subst (λ (x : Held). StandsFor x m) (sym same) stands_now }
+  stays : (st : Statement) (reply : Reply) (held : Held) → Step m (OfSession s st) (told_by reply) reply m → held ≡ now → Goes m s st reply held
+  stays st reply held step same = record { after = m; step = step; stands = subst (λ (h : Held). StandsFor h m) (sym same) stands_now }
 
-  stays_built : (st : Statement) (reply : Reply) (held : Held) → is_built st ≡ true → StatementStep m s (told_by reply) st reply m → held ≡ held_of m xs db → Goes m s st reply held
-  stays_built st reply held built runs same = stays st reply held (chosen (is_built st) (StatementStep m s (told_by reply) st reply m) (Refuses m reply m) built runs) same
+  starts : (x : Option Kept) (o : Session) (reply : Reply) (held : Held) → m.sessions s ≡ o → Shows m.history m.format s x o → HeldStarts now (s - 1) x reply held → Goes m s Start reply held
+  starts None Idle Okay held e here step =
+      goes_with Start Okay (Some (nothing_kept (s - 1 + 1))) (Working []) held (subst (λ (o : Session). Starts m s o Okay (with_session m s (Working []))) (sym e) refl)
+      (omega arith, stands_begin (s - 1 + 1) m.history m.format) step
+  starts (Some kept) (Working t) InTransaction held e here step = stays Start InTransaction held (subst (λ (o : Session). Starts m s o InTransaction m) (sym e) refl) step
+  starts None (Working t) reply held e here step = absurd here
+  starts (Some kept) Idle reply held e here step = absurd here
+  starts None Idle reply held e here step = absurd step
+  starts (Some kept) (Working t) reply held e here step = absurd step
 
-  starts : (o : Session) (reply : Reply) (held : Held) → m.sessions s ≡ o
-      → HeldStarts (held_of m xs db) (s - 1) (open_in m.history m.format o) reply held → Goes m s Start reply held
-  starts Idle Okay held e step = goes_with Start Okay (Working []) held refl (subst (λ (o : Session). Starts m s o Okay (with_session m s (Working []))) (sym e) refl) step
-  starts (Working t) InTransaction held e step = stays_built Start InTransaction held refl (subst (λ (o : Session). Starts m s o InTransaction m) (sym e) refl) step
-  starts Idle reply held e step = absurd step
-  starts (Working t) reply held e step = absurd step
+  rolls_back : (x : Option Kept) (o : Session) (reply : Reply) (held : Held) → m.sessions s ≡ o → Shows m.history m.format s x o → HeldRollsBack now (s - 1) x reply held → Goes m s Rollback reply held
+  rolls_back None Idle NoTransaction held e here step = stays Rollback NoTransaction held (subst (λ (o : Session). RollsBack m s o NoTransaction m) (sym e) refl) step
+  rolls_back (Some kept) (Working t) Okay held e here step =
+      goes_with Rollback Okay None Idle held (subst (λ (o : Session). RollsBack m s o Okay (with_session m s Idle)) (sym e) refl) tt step
+  rolls_back None (Working t) reply held e here step = absurd here
+  rolls_back (Some kept) Idle reply held e here step = absurd here
+  rolls_back None Idle reply held e here step = absurd step
+  rolls_back (Some kept) (Working t) reply held e here step = absurd step
 
   -- what a statement means to the system is what it means to the machine
-  same_meaning : (st : Statement) (t : List Executed) → meaning_in (held_of m xs db) st (open_of m.history t m.format) ≡ open_meaning st (length m.history) (writes_made m t) m.history m.format
-  same_meaning st t =
-      ap (meaning_over st (replay m.history) (writes_made m t)) (sym format)
-      ∙ ap (λ h. meaning_over st (replay h) (writes_made m t) m.format) (sym (take-length m.history))
+  module _ (st : Statement) (kept : Kept) (t : List Executed) (stands : StandsForTransaction kept m.history t m.format) where
+    abbrev meant : Meaning
+    meant = open_meaning st (length m.history) (writes_made m t) m.history m.format
 
-  same_grown : (st : Statement) (t : List Executed) → grown (held_of m xs db) st (open_of m.history t m.format) ≡ open_of m.history (t ++ executed_now m st t ∷ []) m.format
-  same_grown st t =
-      let rs : reads_of m.history t m.format ++ read_at (length m.history) (reads st (after_writes (replay m.history) (writes_made m t))) ≡ reads_of m.history (t ++ executed_now m st t ∷ []) m.format =
-      ap (λ h. reads_of m.history t m.format ++ read_at (length m.history) (reads st (after_writes (replay h) (writes_made m t)))) (sym (take-length m.history))
-      ∙ sym (reads_from-snoc m.history [] t (executed_now m st t) m.format) in
-      let write_set : writes_made m t ++ (meaning_in (held_of m xs db) st (open_of m.history t m.format)).writes ≡ write_set_of m.history (t ++ executed_now m st t ∷ []) m.format =
-      ap (λ (meant : Meaning). writes_made m t ++ meant.writes) (same_meaning st t) ∙ sym (write_set_from-snoc m.history [] t (executed_now m st t) m.format) in
-      λ i. record { reads = rs i; write_set = write_set i }
+    same_meaning : meaning_in now st kept ≡ meant
+    same_meaning =
+        ap (meaning st (laid_over (replay m.history) kept.own) (keys_written kept.own)) (sym format)
+        ∙ means_now kept m.history t st m.format stands
+        ∙ ap (λ h. meaning_over st (replay h) (writes_made m t) m.format) (sym (take-length m.history))
 
-  executes : (st : Statement) (o : Session) (reply : Reply) (held : Held) → is_built st ≡ true
+    abbrev outcome : Outcome
+    outcome = outcome_on (replay m.history) st kept db.header.format
+
+    next : IsNextOutcome m.history t (executed_now m st t) m.format outcome
+    next = record {
+      writes = ap (λ (x : Meaning). x.writes) same_meaning;
+      reads = ap (reads st) (laid_now kept m.history t m.format stands ∙ ap (λ h. after_writes (replay h) (writes_made m t)) (sym (take-length m.history)));
+    }
+
+    same_grown : StandsForTransaction (grown now st kept) m.history (t ++ executed_now m st t ∷ []) m.format
+    same_grown = stands_grow kept m.history t (executed_now m st t) m.format outcome stands next
+
+  executes : (st : Statement) (x : Option Kept) (o : Session) (reply : Reply) (held : Held)
       → ((r : Reply) (after : Machine) → Executes m s st o r after → StatementStep m s (told_by r) st r after)
-      → HeldExecutes (held_of m xs db) (s - 1) st (open_in m.history m.format o) reply held → Goes m s st reply held
-  executes st o Memory held built runs step = stays_built st Memory held built (runs Memory m refl) step
-  executes st Idle NoTransaction held built runs step = stays_built st NoTransaction held built (runs NoTransaction m refl) step
-  executes st Idle reply held built runs step = absurd step
-  executes st (Working t) reply held built runs step =
-      goes_with st reply (Working (t ++ executed_now m st t ∷ [])) held built
-      (runs reply (with_session m s (Working (t ++ executed_now m st t ∷ []))) (step.0 ∙ ap (λ (meant : Meaning). meant.reply) (same_meaning st t), refl))
-      (step.1 ∙ ap (λ (x : Open). with_open (held_of m xs db) (s - 1) (Some x)) (same_grown st t))
+      → Shows m.history m.format s x o → HeldExecutes now (s - 1) st x reply held → Goes m s st reply held
+  executes st x o Memory held runs here step = stays st Memory held (runs Memory m refl) step
+  executes st None Idle NoTransaction held runs here step = stays st NoTransaction held (runs NoTransaction m refl) step
+  executes st None (Working t) reply held runs here step = absurd here
+  executes st (Some kept) Idle reply held runs here step = absurd here
+  executes st None Idle reply held runs here step = absurd step
+  executes st (Some kept) (Working t) reply held runs here step =
+      goes_with st reply (Some (grown now st kept)) (Working (t ++ executed_now m st t ∷ [])) held
+      (runs reply (with_session m s (Working (t ++ executed_now m st t ∷ []))) (step.0 ∙ ap (λ (meant : Meaning). meant.reply) (same_meaning st kept t here.1), refl))
+      (here.0, same_grown st kept t here.1) step.1
 
   idle_answered : (q : ℕ) → SessionAnsweredFromSnapshots m.history ((with_session m s Idle).sessions q) m.format
   idle_answered q = elim (q == s) as (λ b. SessionAnsweredFromSnapshots m.history (cond b Idle (m.sessions q)) m.format) [ true ↦ tt | false ↦ answered.sessions q ]
@@ -201,20 +212,31 @@ module _ (m : Machine) (s : ℕ) (in_range : IsSession s) (xs : List (Option Ope
   by_same = omega arith
 
   -- both judge a commit by the same book
-  book_same : book_in (held_of m xs db) ≡ book_of m
+  book_same : book_in now ≡ book_of m
   book_same = λ i. record { history = m.history; sides = sym sides i; in_doubt = m.in_doubt }
 
-  decides_here : (t : List Executed) (reply : Reply) (after : Book) → Decides (book_in (held_of m xs db)) (told_by reply) (s - 1 + 1) (verdict_in (held_of m xs db) (open_of m.history t m.format)) reply after
-      → Decides (book_of m) (told_by reply) s (verdict (book_of m) t m.format) reply after
-  decides_here t reply after decides =
-      subst (λ (by : ℕ). Decides (book_of m) (told_by reply) by (verdict (book_of m) t m.format) reply after) by_same
-      (subst (λ (x : Book). Decides x (told_by reply) (s - 1 + 1) (judged x (reads_of m.history t m.format) (writes_made m t)) reply after) book_same decides)
+  -- and by the same reads and writes
+  judged_same : (kept : Kept) (t : List Executed) → StandsForTransaction kept m.history t m.format → verdict_in now kept ≡ verdict (book_of m) t m.format
+  judged_same kept t stands =
+      let later : first_conflict kept.reads m.history ≡ conflict m.history t m.format = conflict_alike kept.reads (reads_of m.history t m.format) m.history stands.reads in
+      ap (λ c. by_doubt m.in_doubt c (length m.history) (intended kept.own)) later
+      ∙ same_verdict m.in_doubt (conflict m.history t m.format) (length m.history) (intended kept.own) (net (replay m.history) (write_set_of m.history t m.format))
+      (λ none. stands_net kept m.history t m.format answered.history stands none)
 
-  -- what an open transaction has read and written stays, also behind a new entry
-  opens_same : (b : Book) → Grows (book_of m) b → (o : Session) → SessionAnsweredFromSnapshots m.history o m.format → open_in m.history m.format o ≡ open_in b.history m.format o
-  opens_same b (model_runs.stays same) o f = ap (λ h. open_in h m.format o) (sym same)
-  opens_same b (model_runs.grows by writes same) o f =
-      sym (same_open m.history (next_entry (book_of m) by writes ∷ []) o m.format f) ∙ ap (λ h. open_in h m.format o) (sym same)
+  decides_here : (kept : Kept) (t : List Executed) (reply : Reply) (after : Book) → StandsForTransaction kept m.history t m.format
+      → Decides (book_in now) (told_by reply) (s - 1 + 1) (verdict_in now kept) reply after
+      → Decides (book_of m) (told_by reply) s (verdict (book_of m) t m.format) reply after
+  decides_here kept t reply after stands decides =
+      subst (λ (v : Verdict). Decides (book_of m) (told_by reply) s v reply after) (judged_same kept t stands)
+      (subst (λ (by : ℕ). Decides (book_of m) (told_by reply) by (verdict_in now kept) reply after) by_same
+      (subst (λ (x : Book). Decides x (told_by reply) (s - 1 + 1) (verdict_in now kept) reply after) book_same decides))
+
+  -- what is kept of a session stays, also behind a new entry
+  shows_still : (b : Book) → Grows (book_of m) b → (q : ℕ) (x : Option Kept) (o : Session) → SessionAnsweredFromSnapshots m.history o m.format
+      → Shows m.history m.format q x o → Shows b.history m.format q x o
+  shows_still b (model_runs.stays same) q x o f here = subst (λ (h : List Entry). Shows h m.format q x o) (sym same) here
+  shows_still b (model_runs.grows by writes same) q x o f here =
+      subst (λ (h : List Entry). Shows h m.format q x o) (sym same) (shows_longer m.history (next_entry (book_of m) by writes ∷ []) m.format q x o f here)
 
   stands_behind : (b : Bool) (held : Held) → Grows (book_of m) (book_in held) → held.sessions ≡ cond b (slice_set xs (s - 1) None) xs → held.transdb.header ≡ db.header
       → AnsweredFromSnapshots (cond b (with_session (with_book m (book_in held)) s Idle) (with_book m (book_in held)))
@@ -225,8 +247,10 @@ module _ (m : Machine) (s : ℕ) (in_range : IsSession s) (xs : List (Option Ope
     in_doubt = refl;
     format = format ∙ ap (λ (h : Header). h.format) (sym header);
     count = ap length sessions ∙ length-set xs (s - 1) None ∙ count;
-    each = λ q is. ap (λ ys. slice_get ys (q - 1)) sessions ∙ shows_with xs m s Idle count in_range shows q is
-        ∙ ap Some (opens_same (book_in held) more ((with_session m s Idle).sessions q) (idle_answered q));
+    each = λ q is.
+        subst (λ (ys : List (Option Kept)). Shows held.history m.format q (unwrap_or (slice_get ys (q - 1)) None) ((with_session m s Idle).sessions q)) (sym sessions)
+        (shows_still (book_in held) more q (unwrap_or (slice_get (slice_set xs (s - 1) None) (q - 1)) None) ((with_session m s Idle).sessions q) (idle_answered q)
+        (shows_with xs m s None Idle count in_range shows tt q is));
     answered = kept;
   }
   stands_behind false held more sessions header kept = record {
@@ -235,14 +259,16 @@ module _ (m : Machine) (s : ℕ) (in_range : IsSession s) (xs : List (Option Ope
     in_doubt = refl;
     format = format ∙ ap (λ (h : Header). h.format) (sym header);
     count = ap length sessions ∙ count;
-    each = λ q is. ap (λ ys. slice_get ys (q - 1)) sessions ∙ shows q is ∙ ap Some (opens_same (book_in held) more (m.sessions q) (answered.sessions q));
+    each = λ q is.
+        subst (λ (ys : List (Option Kept)). Shows held.history m.format q (unwrap_or (slice_get ys (q - 1)) None) (m.sessions q)) (sym sessions)
+        (shows_still (book_in held) more q (unwrap_or (slice_get xs (q - 1)) None) (m.sessions q) (answered.sessions q) (shows q is));
     answered = kept;
   }
 
-  decides : (t : List Executed) (reply : Reply) (held : Held) → m.sessions s ≡ Working t
-      → IsDecided (held_of m xs db) (s - 1) (verdict_in (held_of m xs db) (open_of m.history t m.format)) reply held → Goes m s Commit reply held
-  decides t reply held e decided =
-      let here = decides_here t reply (book_in held) decided.decides in
+  decides : (kept : Kept) (t : List Executed) (reply : Reply) (held : Held) → m.sessions s ≡ Working t → StandsForTransaction kept m.history t m.format
+      → IsDecided now (s - 1) (verdict_in now kept) reply held → Goes m s Commit reply held
+  decides kept t reply held e stands decided =
+      let here = decides_here kept t reply (book_in held) stands decided.decides in
       let after : Machine = behind m s reply (book_in held) in
       let step : Step m (OfSession s Commit) (told_by reply) reply after = commit_runs m s (told_by reply) t reply (book_in held) e here in
       record {
@@ -252,42 +278,41 @@ module _ (m : Machine) (s : ℕ) (in_range : IsSession s) (xs : List (Option Ope
             (answered_step m s Commit (told_by reply) reply after answered step);
       }
 
-  commits : (o : Session) (reply : Reply) (held : Held) → m.sessions s ≡ o
-      → HeldCommits (held_of m xs db) (s - 1) (open_in m.history m.format o) reply held → Goes m s Commit reply held
-  commits o Memory held e step = stays_built Commit Memory held refl refl step
-  commits Idle NoTransaction held e step =
-      stays_built Commit NoTransaction held refl (subst (λ (o : Session). Commits m s (told_by NoTransaction) o NoTransaction m) (sym e) refl) step
-  commits Idle reply held e step = absurd step
-  commits (Working t) reply held e step = decides t reply held e step
+  commits : (x : Option Kept) (o : Session) (reply : Reply) (held : Held) → m.sessions s ≡ o → Shows m.history m.format s x o → HeldCommits now (s - 1) x reply held → Goes m s Commit reply held
+  commits x o Memory held e here step = stays Commit Memory held refl step
+  commits None Idle NoTransaction held e here step = stays Commit NoTransaction held (subst (λ (o : Session). Commits m s (told_by NoTransaction) o NoTransaction m) (sym e) refl) step
+  commits None (Working t) reply held e here step = absurd here
+  commits (Some kept) Idle reply held e here step = absurd here
+  commits None Idle reply held e here step = absurd step
+  commits (Some kept) (Working t) reply held e here step = decides kept t reply held e here.1 step
 
-  -- what stands at the session's place is the machine's transaction
-  at_key : session_at (held_of m xs db) (s - 1) ≡ open_in m.history m.format (m.sessions s)
-  at_key = ap (λ o. unwrap_or o None) (shows s in_range)
+  not_yet : (st : Statement) (reply : Reply) (held : Held) → ((after : Machine) → after ≡ m → StatementStep m s (told_by NotYet) st NotYet after) → (reply ≡ NotYet) × (held ≡ now) → Goes m s st reply held
+  not_yet st reply held refuses step = subst (λ (r : Reply). Goes m s st r held) (sym step.0) (stays st NotYet held (refuses m refl) step.1)
 
-  runs : (st : Statement) (reply : Reply) (held : Held) → is_built st ≡ true → HeldRuns (held_of m xs db) (s - 1) st reply held → Goes m s st reply held
-  runs Start reply held built step = starts (m.sessions s) reply held refl (subst (λ (o : Option Open). HeldStarts (held_of m xs db) (s - 1) o reply held) at_key step)
-  runs Commit reply held built step = commits (m.sessions s) reply held refl (subst (λ (o : Option Open). HeldCommits (held_of m xs db) (s - 1) o reply held) at_key step)
-  runs (Select what table f) reply held built step =
-      executes (Select what table f) (m.sessions s) reply held built (λ r after x. x)
-      (subst (λ (o : Option Open). HeldExecutes (held_of m xs db) (s - 1) (Select what table f) o reply held) at_key step)
-  runs (Insert table tuples) reply held built step =
-      executes (Insert table tuples) (m.sessions s) reply held built (λ r after x. x)
-      (subst (λ (o : Option Open). HeldExecutes (held_of m xs db) (s - 1) (Insert table tuples) o reply held) at_key step)
-  runs Rollback reply held built step = absurd cc
-  runs (Update table sets f) reply held built step = absurd cc
-  runs (Delete table f) reply held built step = absurd cc
-  runs (CreateDatabank name) reply held built step = absurd cc
-  runs (CreateTable name columns key bank) reply held built step = absurd cc
-  runs (DropTable name) reply held built step = absurd cc
-  runs (CreateShadow name bank) reply held built step = absurd cc
-  runs (ShadowOnline name) reply held built step = absurd cc
-  runs (ShadowOffline name) reply held built step = absurd cc
-  runs (ShadowMaster name) reply held built step = absurd cc
-  runs (DropShadow name) reply held built step = absurd cc
-  runs (CreateBackup name bank) reply held built step = absurd cc
-  runs (BackupReady name) reply held built step = absurd cc
-  runs (DropBackup name) reply held built step = absurd cc
-  runs (Restore bank name) reply held built step = absurd cc
+  runs : (st : Statement) (reply : Reply) (held : Held) → HeldRuns now (s - 1) st reply held → Goes m s st reply held
+  runs Start reply held step = starts (session_at now (s - 1)) (m.sessions s) reply held refl (shows s in_range) step
+  runs Commit reply held step = commits (session_at now (s - 1)) (m.sessions s) reply held refl (shows s in_range) step
+  runs Rollback reply held step = rolls_back (session_at now (s - 1)) (m.sessions s) reply held refl (shows s in_range) step
+  runs (Select what table f) reply held step =
+      executes (Select what table f) (session_at now (s - 1)) (m.sessions s) reply held (λ r after x. x) (shows s in_range) step
+  runs (Insert table tuples) reply held step =
+      executes (Insert table tuples) (session_at now (s - 1)) (m.sessions s) reply held (λ r after x. x) (shows s in_range) step
+  runs (Update table sets f) reply held step =
+      executes (Update table sets f) (session_at now (s - 1)) (m.sessions s) reply held (λ r after x. x) (shows s in_range) step
+  runs (Delete table f) reply held step =
+      executes (Delete table f) (session_at now (s - 1)) (m.sessions s) reply held (λ r after x. x) (shows s in_range) step
+  runs (CreateDatabank name) reply held step = not_yet (CreateDatabank name) reply held (λ after is. is) step
+  runs (CreateTable name columns key bank) reply held step = not_yet (CreateTable name columns key bank) reply held (λ after is. is) step
+  runs (DropTable name) reply held step = not_yet (DropTable name) reply held (λ after is. is) step
+  runs (CreateShadow name bank) reply held step = not_yet (CreateShadow name bank) reply held (λ after is. is) step
+  runs (ShadowOnline name) reply held step = not_yet (ShadowOnline name) reply held (λ after is. is) step
+  runs (ShadowOffline name) reply held step = not_yet (ShadowOffline name) reply held (λ after is. is) step
+  runs (ShadowMaster name) reply held step = not_yet (ShadowMaster name) reply held (λ after is. is) step
+  runs (DropShadow name) reply held step = not_yet (DropShadow name) reply held (λ after is. is) step
+  runs (CreateBackup name bank) reply held step = not_yet (CreateBackup name bank) reply held (λ after is. is) step
+  runs (BackupReady name) reply held step = not_yet (BackupReady name) reply held (λ after is. is) step
+  runs (DropBackup name) reply held step = not_yet (DropBackup name) reply held (λ after is. is) step
+  runs (Restore bank name) reply held step = not_yet (Restore bank name) reply held (λ after is. is) step
 
 unified : (held : Held) (m : Machine) → held.history ≡ m.history → held.in_doubt ≡ m.in_doubt → held ≡ held_of m held.sessions held.transdb
 unified held m history in_doubt = λ i. record { history = history i; sessions = held.sessions; transdb = held.transdb; in_doubt = in_doubt i }
@@ -304,23 +329,15 @@ follows held m s st reply old new rose goes = record {
   stands = goes.stands;
 }
 
--- a statement of a form that is built
-pub follows_built : (held : Held) (m : Machine) (s : ℕ) (st : Statement) (reply : Reply) (after : Held) (old new : World) → IsSession s → StandsFor held m
-    → is_built st ≡ true → HeldRuns held (s - 1) st reply after → FaultRose reply old new
+-- a statement of a session
+pub follows_runs : (held : Held) (m : Machine) (s : ℕ) (st : Statement) (reply : Reply) (after : Held) (old new : World) → IsSession s → StandsFor held m
+    → HeldRuns held (s - 1) st reply after → FaultRose reply old new
     → Follows (Risen old new) m (OfSession s st) reply after
-follows_built held m s st reply after old new in_range stands built step rose =
+follows_runs held m s st reply after old new in_range stands step rose =
     let same = unified held m stands.history stands.in_doubt in
     follows after m s st reply old new rose
-    (runs m s in_range held.sessions held.transdb stands.count stands.each stands.sides stands.format stands.answered st reply after built
+    (runs m s in_range held.sessions held.transdb stands.count stands.each stands.sides stands.format stands.answered st reply after
     (subst (λ (x : Held). HeldRuns x (s - 1) st reply after) same step))
-
--- a statement of a form that isn't built
-pub follows_refused : (held : Held) (m : Machine) (s : ℕ) (st : Statement) (after : Held) (old new : World) → IsSession s → StandsFor held m
-    → is_built st ≡ false → after ≡ held → Follows (Risen old new) m (OfSession s st) NotYet after
-follows_refused held m s st after old new in_range stands built same =
-    follows after m s st NotYet old new tt
-    (stays m s in_range held.sessions held.transdb stands.count stands.each stands.sides stands.format stands.answered st NotYet after
-    (refused_by (is_built st) (StatementStep m s (told_by NotYet) st NotYet m) (Refuses m NotYet m) built refl) (same ∙ unified held m stands.history stands.in_doubt))
 
 -- a step of upkeep
 pub follows_control : (held : Held) (m : Machine) (control : Upkeep) (after : Held) (old new : World) → StandsFor held m → after ≡ held
@@ -334,41 +351,41 @@ follows_control held m control after old new stands same = record {
   stands = subst (λ (x : Held). StandsFor x m) (sym same) stands;
 }
 
--- a statement that is no START and no COMMIT never means MEMORY
-pub executed : (held : Held) (at : ℕ) (st : Statement) (t : Open) (reply : Reply) (after : Held) → reply ≡ (meaning_in held st t).reply
+-- no statement means MEMORY
+pub executed : (held : Held) (at : ℕ) (st : Statement) (t : Kept) (reply : Reply) (after : Held) → reply ≡ (meaning_in held st t).reply
     → after ≡ with_open held at (Some (grown held st t)) → HeldExecutes held at st (Some t) reply after
 unfolding is_meant
-executed held at st t Memory after same next = absurd (not_meant Memory st (after_writes (replay held.history) t.write_set) (table_keys t.write_set) held.transdb.header.format refl same)
-executed held at st t reply after same next = (same, next)
+executed held at st t Memory after same grew = absurd (not_meant Memory st (laid_over (replay held.history) t.own) (keys_written t.own) held.transdb.header.format refl same)
+executed held at st t reply after same grew = (same, grew)
 
 -- such a statement answers no fault, so nothing is owed for one
-pub executes_caused : (held : Held) (at : ℕ) (st : Statement) (t : Option Open) (reply : Reply) (after : Held) (old new : World) → HeldExecutes held at st t reply after
+pub executes_caused : (held : Held) (at : ℕ) (st : Statement) (t : Option Kept) (reply : Reply) (after : Held) (old new : World) → HeldExecutes held at st t reply after
     → CausedBy held reply after old new
 unfolding is_meant
 executes_caused held at st None (Fault f) after old new step = absurd step
 executes_caused held at st None (InDoubt k) after old new step = absurd step
 executes_caused held at st (Some t) (Fault f) after old new step =
-    absurd (not_meant (Fault f) st (after_writes (replay held.history) t.write_set) (table_keys t.write_set) held.transdb.header.format refl step.0)
+    absurd (not_meant (Fault f) st (laid_over (replay held.history) t.own) (keys_written t.own) held.transdb.header.format refl step.0)
 executes_caused held at st (Some t) (InDoubt k) after old new step =
-    absurd (not_meant (InDoubt k) st (after_writes (replay held.history) t.write_set) (table_keys t.write_set) held.transdb.header.format refl step.0)
+    absurd (not_meant (InDoubt k) st (laid_over (replay held.history) t.own) (keys_written t.own) held.transdb.header.format refl step.0)
 executes_caused held at st t reply after old new step = tt
 
 -- nor is anything written for one, where it makes no call
-pub executes_still : (held : Held) (at : ℕ) (st : Statement) (t : Option Open) (reply : Reply) (after : Held) (w : World) → HeldExecutes held at st t reply after → HeldWrites held reply w w
+pub executes_still : (held : Held) (at : ℕ) (st : Statement) (t : Option Kept) (reply : Reply) (after : Held) (w : World) → HeldExecutes held at st t reply after → HeldWrites held reply w w
 unfolding is_meant
 executes_still held at st None (Committed k) after w step = absurd step
 executes_still held at st None (Fault f) after w step = absurd step
 executes_still held at st None (InDoubt k) after w step = absurd step
 executes_still held at st (Some t) (Committed k) after w step =
-    absurd (not_meant (Committed k) st (after_writes (replay held.history) t.write_set) (table_keys t.write_set) held.transdb.header.format refl step.0)
+    absurd (not_meant (Committed k) st (laid_over (replay held.history) t.own) (keys_written t.own) held.transdb.header.format refl step.0)
 executes_still held at st (Some t) (Fault f) after w step =
-    absurd (not_meant (Fault f) st (after_writes (replay held.history) t.write_set) (table_keys t.write_set) held.transdb.header.format refl step.0)
+    absurd (not_meant (Fault f) st (laid_over (replay held.history) t.own) (keys_written t.own) held.transdb.header.format refl step.0)
 executes_still held at st (Some t) (InDoubt k) after w step =
-    absurd (not_meant (InDoubt k) st (after_writes (replay held.history) t.write_set) (table_keys t.write_set) held.transdb.header.format refl step.0)
+    absurd (not_meant (InDoubt k) st (laid_over (replay held.history) t.own) (keys_written t.own) held.transdb.header.format refl step.0)
 executes_still held at st t reply after w step = refl
 
 -- so for START
-pub starts_still : (held : Held) (at : ℕ) (t : Option Open) (reply : Reply) (after : Held) (w : World) → HeldStarts held at t reply after → HeldWrites held reply w w
+pub starts_still : (held : Held) (at : ℕ) (t : Option Kept) (reply : Reply) (after : Held) (w : World) → HeldStarts held at t reply after → HeldWrites held reply w w
 starts_still held at None (Committed k) after w step = absurd step
 starts_still held at None (Fault f) after w step = absurd step
 starts_still held at None (InDoubt k) after w step = absurd step
@@ -377,13 +394,38 @@ starts_still held at (Some t) (Fault f) after w step = absurd step
 starts_still held at (Some t) (InDoubt k) after w step = absurd step
 starts_still held at t reply after w step = refl
 
+-- nor for ROLLBACK
+pub rolls_back_caused : (held : Held) (at : ℕ) (t : Option Kept) (reply : Reply) (after : Held) (old new : World) → HeldRollsBack held at t reply after → CausedBy held reply after old new
+rolls_back_caused held at None (Fault f) after old new step = absurd step
+rolls_back_caused held at None (InDoubt k) after old new step = absurd step
+rolls_back_caused held at (Some t) (Fault f) after old new step = absurd step
+rolls_back_caused held at (Some t) (InDoubt k) after old new step = absurd step
+rolls_back_caused held at t reply after old new step = tt
+
+pub rolls_back_still : (held : Held) (at : ℕ) (t : Option Kept) (reply : Reply) (after : Held) (w : World) → HeldRollsBack held at t reply after → HeldWrites held reply w w
+rolls_back_still held at None (Committed k) after w step = absurd step
+rolls_back_still held at None (Fault f) after w step = absurd step
+rolls_back_still held at None (InDoubt k) after w step = absurd step
+rolls_back_still held at (Some t) (Committed k) after w step = absurd step
+rolls_back_still held at (Some t) (Fault f) after w step = absurd step
+rolls_back_still held at (Some t) (InDoubt k) after w step = absurd step
+rolls_back_still held at t reply after w step = refl
+
+-- nor for START
+pub starts_caused : (held : Held) (at : ℕ) (t : Option Kept) (reply : Reply) (after : Held) (old new : World) → HeldStarts held at t reply after → CausedBy held reply after old new
+starts_caused held at None (Fault f) after old new step = absurd step
+starts_caused held at None (InDoubt k) after old new step = absurd step
+starts_caused held at (Some t) (Fault f) after old new step = absurd step
+starts_caused held at (Some t) (InDoubt k) after old new step = absurd step
+starts_caused held at t reply after old new step = tt
+
 idle_places : (n i : ℕ) → i < n → slice_get (replicate n (none_open)) i ≡ Some none_open
 idle_places zero i within = absurd (omega arith)
 idle_places (suc n) zero within = refl
 idle_places (suc n) (suc i) within = idle_places n i (omega arith)
 
 -- a system that begins with a history
-pub stands_first : (h : List Entry) (xs : List (Option Open)) (db : Db) → IsHistory h → xs ≡ replicate 64 none_open
+pub stands_first : (h : List Entry) (xs : List (Option Kept)) (db : Db) → IsHistory h → xs ≡ replicate 64 none_open
     → StandsFor (record { history = h; sessions = xs; transdb = db; in_doubt = None }) (first_machine db.header.format (sides_of db.header) h)
 stands_first h xs db numbered same = record {
   history = refl;
@@ -391,7 +433,10 @@ stands_first h xs db numbered same = record {
   in_doubt = refl;
   format = refl;
   count = rw same refl;
-  each = λ s is. let within : s - 1 < 64 = omega arith in rw same (idle_places 64 (s - 1) within);
+  each = λ s is.
+      let within : s - 1 < 64 = omega arith in
+      let idle : unwrap_or (slice_get xs (s - 1)) None ≡ None = ap (λ (ys : List (Option Kept)). unwrap_or (slice_get ys (s - 1)) None) same ∙ ap (λ o. unwrap_or o None) (idle_places 64 (s - 1) within) in
+      subst (λ (o : Option Kept). Shows h db.header.format s o Idle) (sym idle) tt;
   answered = answered_first db.header.format (sides_of db.header) h numbered;
 }
 

@@ -12,7 +12,7 @@ use Rattle.odb_transdb.specs.Opened.{Holds, entries_in}
 use Rattle.odb_transdb.specs.Standing.{Db, Stands}
 use Rattle.odb_codec.specs.Image.{entry_image}
 use Rattle.odb_transdb.specs.Answers.{HoldsAll}
-use Rattle.odb_transdb.specs.Worlds.{RoseAtGate, WritesFromGate, WritesBehindGate}
+use Rattle.odb_transdb.specs.Worlds.{RoseAtGate, WritesFromGate, WritesRecord, WritesBehindGate}
 use Rattle.odb_system.specs.Held.{Held, Begins}
 
 -- the history, and the entry in doubt where there is one
@@ -76,10 +76,10 @@ pub record HeldWritesWithin
   pub only : Bounds before.transdb old new
 
 -- What a step wrote, by its reply: with COMMITTED and INDOUBT only where the next record goes, from
--- its gate to the end of the active side; with FAULT only behind that gate; with any other reply
--- nothing, and the world is as it was
+-- its gate to the end of the active side, and with COMMITTED nothing stands behind the record; with
+-- FAULT only behind that gate; with any other reply nothing, and the world is as it was
 abbrev pub HeldWrites : Held → Reply → World → World → Type 0
-HeldWrites before (Committed k) old new = HeldWritesWithin WritesFromGate before old new
+HeldWrites before (Committed k) old new = HeldWritesWithin WritesRecord before old new
 HeldWrites before (Fault f) old new = HeldWritesWithin WritesBehindGate before old new
 HeldWrites before (InDoubt k) old new = HeldWritesWithin WritesFromGate before old new
 HeldWrites before reply old new = new ≡ old

@@ -1,59 +1,40 @@
 -- What a system holds, how its calls change it, and which machine it stands for.
-use Rattle.std.specs.Prelude.{◌≡◌, ◌≢◌, ℕ, ◌+◌, ◌-◌, ◌==◌, Bool, true, false, drop, List, [], ◌++◌, length, Option, Some, None, slice_get, slice_set, unwrap_or, if◌then◌else◌}
+use Rattle.std.specs.Prelude.{◌≡◌, ◌≢◌, ℕ, ◌+◌, ◌-◌, ◌≤◌, ◌==◌, Bool, true, false, drop, List, [], ◌++◌, length, Option, Some, None, slice_get, slice_set, unwrap_or, if◌then◌else◌}
 use Rattle.odb_model.specs.declared.numbers.TheConstants.{SESSIONS}
 use Rattle.odb_model.specs.declared.write.Write.{Write}
 use Rattle.odb_model.specs.declared.entry.Entry.{Entry}
-use Rattle.odb_model.specs.declared.outcome.Read.{Read}
 use Rattle.odb_model.specs.declared.reply.Reply.{Reply}
 use Rattle.odb_model.specs.declared.reply.Reply.TheVariants.{Okay, InDoubt, NoTransaction, InTransaction, Fault, Memory, NotYet}
 use Rattle.odb_model.specs.declared.statement.Statement.{Statement}
-use Rattle.odb_model.specs.declared.statement.Statement.TheVariants.{Start, Commit, Select, Insert}
-use Rattle.odb_model.specs.State.{State, replay, after_writes}
+use Rattle.odb_model.specs.declared.statement.Statement.TheVariants.{Start, Commit, Rollback, Select, Insert, Update, Delete}
+use Rattle.odb_model.specs.State.{IsHistory, replay}
 use Rattle.odb_model.specs.Meaning.{Meaning}
-use Rattle.odb_model.specs.Reads.{reads}
-use Rattle.odb_model.specs.Transaction.{Executed, meaning_over, write_set_of, read_at, reads_of}
+use Rattle.odb_model.specs.Transaction.{first_conflict}
+use Rattle.odb_model.specs.Intentions.{intended}
 use Rattle.odb_model.specs.Script.{IsSession}
 use Rattle.odb_model.specs.declared.event.Event.{Event}
 use Rattle.odb_model.specs.declared.event.Event.TheVariants.{Session as OfSession, Control}
-use Rattle.odb_model.specs.Session.{Session, Idle, Working}
 use Rattle.odb_model.specs.Sides.{Sides}
-use Rattle.odb_model.specs.Book.{Book, Seen, Verdict, Writes, judged, Decides, ends_transaction}
+use Rattle.odb_model.specs.Book.{Book, Seen, Verdict, Writes, by_doubt, Decides, ends_transaction}
 use Rattle.odb_model.specs.Machine.{Machine, Step}
-use Rattle.odb_model.specs.State.{IsHistory}
-use Rattle.odb_model.specs.Storable.{AreStorable, IsStorableList}
+use Rattle.odb_model.specs.Storable.{IsStorableList, HaveKeys}
 use Rattle.odb_model.specs.Width.{records_width}
 use Rattle.std.specs.List.{All}
 use Rattle.odb_transdb.specs.declared.header.Header.{Header}
 use Rattle.odb_transdb.specs.Header.{side_size, first_held, active_first}
 use Rattle.odb_transdb.specs.Standing.{Db, IsPlaced}
 use Rattle.odb_model.specs.Serial.{AnsweredFromSnapshots}
-
--- an open transaction: what it has read, and what it has written
-pub record Open : Type 0 where
-  pub reads : List Read
-  pub write_set : List Write
+use Rattle.odb_keytable.specs.Committed.{Committed}
+use Rattle.odb_txn.specs.Transaction.{Kept, nothing_kept}
+use Rattle.odb_system.specs.Open.{meaning_on, grown_on, IsOpen, Shows}
 
 -- a history, session s at place s - 1, the log that has the history, and the entry that may be in
 -- the log besides
 pub record Held : Type 0 where
   pub history : List Entry
-  pub sessions : List (Option Open)
+  pub sessions : List (Option Kept)
   pub transdb : Db
   pub in_doubt : Option Entry
-
--- a transaction that has done nothing yet
-abbrev pub nothing_done : Open
-nothing_done = record { reads = []; write_set = [] }
-
--- the transaction with these reads and writes behind its own
-abbrev pub extended : Open → List Read → List Write → Open
-extended t reads writes =
-    record { reads = t.reads ++ reads; write_set = t.write_set ++ writes }
-
--- what is asked of an open transaction: its writes can be stored as one entry
-abbrev pub IsOpen : Option Open → Type 0
-IsOpen None = Unit {0}
-IsOpen (Some t) = AreStorable t.write_set
 
 -- The log holds just this history: the entries from 1 on, and its next record is the next entry's.
 -- The records of those on the active side fill it up to the place of the next
@@ -77,16 +58,22 @@ pub record IsHeld (held : Held) : Type 0 where
   pub count : length held.sessions ≡ SESSIONS
   pub numbered : IsHistory held.history
   pub log : IsAsDoubted held.transdb held.history held.in_doubt
+  pub keyed : All (λ e. HaveKeys e.writes) held.history
   pub each : All IsOpen held.sessions
 
+-- the rows are those that the history makes, and of its entries no more wait than there are
+pub record AreRowsOf (h : List Entry) (rows : Committed) : Type 0 where
+  pub state : rows.state ≡ replay h
+  pub waiting : rows.waiting ≤ length h
+
 -- a session that is idle
-abbrev pub none_open : Option Open
+abbrev pub none_open : Option Kept
 none_open = None
 
-abbrev pub session_at : Held → ℕ → Option Open
+abbrev pub session_at : Held → ℕ → Option Kept
 session_at held at = unwrap_or (slice_get held.sessions at) None
 
-abbrev pub with_open : Held → ℕ → Option Open → Held
+abbrev pub with_open : Held → ℕ → Option Kept → Held
 with_open held at t = record held { sessions = slice_set held.sessions at t }
 
 -- TRANSDB as a machine sees it
@@ -107,27 +94,26 @@ book_in held = record {
   in_doubt = held.in_doubt;
 }
 
--- the state on which a statement of an open transaction runs
-abbrev pub state_in : Held → Open → State
-state_in held t = after_writes (replay held.history) t.write_set
-
 -- what a statement means in an open transaction
-abbrev pub meaning_in : Held → Statement → Open → Meaning
-meaning_in held st t =
-    meaning_over st (replay held.history) t.write_set held.transdb.header.format
+abbrev pub meaning_in : Held → Statement → Kept → Meaning
+meaning_in held st t = meaning_on (replay held.history) st t held.transdb.header.format
 
 -- the transaction after a statement
-abbrev pub grown : Held → Statement → Open → Open
+abbrev pub grown : Held → Statement → Kept → Kept
 grown held st t =
-    extended t (read_at (length held.history) (reads st (state_in held t)))
-    (meaning_in held st t).writes
+    grown_on (replay held.history) st t (length held.history) held.transdb.header.format
 
-abbrev pub HeldStarts : Held → ℕ → Option Open → Reply → Held → Type 0
-HeldStarts held at None Okay after = after ≡ with_open held at (Some nothing_done)
+abbrev pub HeldStarts : Held → ℕ → Option Kept → Reply → Held → Type 0
+HeldStarts held at None Okay after = after ≡ with_open held at (Some (nothing_kept (at + 1)))
 HeldStarts held at (Some t) InTransaction after = after ≡ held
 HeldStarts held at t reply after = ⊥
 
-abbrev pub HeldExecutes : Held → ℕ → Statement → Option Open → Reply → Held → Type 0
+abbrev pub HeldRollsBack : Held → ℕ → Option Kept → Reply → Held → Type 0
+HeldRollsBack held at None NoTransaction after = after ≡ held
+HeldRollsBack held at (Some t) Okay after = after ≡ with_open held at None
+HeldRollsBack held at t reply after = ⊥
+
+abbrev pub HeldExecutes : Held → ℕ → Statement → Option Kept → Reply → Held → Type 0
 HeldExecutes held at st t Memory after = after ≡ held
 HeldExecutes held at st None NoTransaction after = after ≡ held
 HeldExecutes held at st None reply after = ⊥
@@ -163,7 +149,7 @@ told_by reply = record {
 }
 
 -- the sessions behind the reply to a COMMIT of the one at a place
-abbrev pub sessions_behind : Held → ℕ → Reply → List (Option Open)
+abbrev pub sessions_behind : Held → ℕ → Reply → List (Option Kept)
 sessions_behind held at reply =
     if ends_transaction reply then slice_set held.sessions at None else held.sessions
 
@@ -180,11 +166,13 @@ HeldSeals held at writes Memory after = after ≡ held
 HeldSeals held at writes reply after = IsDecided held at (Writes writes) reply after
 
 -- the verdict on an open transaction
-abbrev pub verdict_in : Held → Open → Verdict
-verdict_in held t = judged (book_in held) t.reads t.write_set
+abbrev pub verdict_in : Held → Kept → Verdict
+verdict_in held t =
+    by_doubt held.in_doubt (first_conflict t.reads held.history) (length held.history)
+    (intended t.own)
 
 -- COMMIT
-abbrev pub HeldCommits : Held → ℕ → Option Open → Reply → Held → Type 0
+abbrev pub HeldCommits : Held → ℕ → Option Kept → Reply → Held → Type 0
 HeldCommits held at t Memory after = after ≡ held
 HeldCommits held at None NoTransaction after = after ≡ held
 HeldCommits held at None reply after = ⊥
@@ -195,22 +183,19 @@ HeldCommits held at (Some t) reply after =
 abbrev pub HeldRuns : Held → ℕ → Statement → Reply → Held → Type 0
 HeldRuns held at Start reply after = HeldStarts held at (session_at held at) reply after
 HeldRuns held at Commit reply after = HeldCommits held at (session_at held at) reply after
+HeldRuns held at Rollback reply after = HeldRollsBack held at (session_at held at) reply after
 HeldRuns held at (Select what table filter) reply after =
     HeldExecutes held at (Select what table filter) (session_at held at) reply after
 HeldRuns held at (Insert table tuples) reply after =
     HeldExecutes held at (Insert table tuples) (session_at held at) reply after
+HeldRuns held at (Update table sets filter) reply after =
+    HeldExecutes held at (Update table sets filter) (session_at held at) reply after
+HeldRuns held at (Delete table filter) reply after =
+    HeldExecutes held at (Delete table filter) (session_at held at) reply after
 HeldRuns held at other reply after = (reply ≡ NotYet) × (after ≡ held)
 
--- what a session is in, for the system
-abbrev pub open_of : List Entry → List Executed → ℕ → Open
-open_of h t format = record { reads = reads_of h t format; write_set = write_set_of h t format }
-
-abbrev pub open_in : List Entry → ℕ → Session → Option Open
-open_in h format Idle = None
-open_in h format (Working t) = Some (open_of h t format)
-
--- The system stands for the machine: the same history, sides, entry in doubt and format, and for
--- each session the reads and writes of its transaction
+-- The system stands for the machine: the same history, sides, entry in doubt and format, and of
+-- each session what stands for its transaction
 pub record StandsFor (held : Held) (m : Machine) : Type 0 where
   pub history : held.history ≡ m.history
   pub sides : m.sides ≡ sides_of held.transdb.header
@@ -218,7 +203,7 @@ pub record StandsFor (held : Held) (m : Machine) : Type 0 where
   pub format : m.format ≡ held.transdb.header.format
   pub count : length held.sessions ≡ SESSIONS
   pub each : (s : ℕ) → IsSession s
-      → slice_get held.sessions (s - 1) ≡ Some (open_in m.history m.format (m.sessions s))
+      → Shows m.history m.format s (session_at held (s - 1)) (m.sessions s)
   pub answered : AnsweredFromSnapshots m
 
 -- the session's number, where there is one, is one of those there are

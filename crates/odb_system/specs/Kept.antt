@@ -16,7 +16,7 @@ use Rattle.odb_transdb.specs.Header.{first_held}
 use Rattle.odb_transdb.specs.Opened.{Holds}
 use Rattle.odb_transdb.specs.Standing.{Db}
 use Rattle.odb_transdb.specs.Answers.{HoldsAll}
-use Rattle.odb_transdb.specs.Worlds.{RoseAtGate, WritesFromGate, WritesBehindGate}
+use Rattle.odb_transdb.specs.Worlds.{RoseAtGate, WritesFromGate, WritesRecord, WritesBehindGate}
 use Rattle.odb_system.specs.Held.{Held, Begins, Follows, sides_of}
 use Rattle.odb_system.specs.Durable.{Risen}
 
@@ -69,11 +69,11 @@ pub record WritesWithinLog
   pub begins : Begins log m.history
   pub only : Bounds log old new
 
--- What a step may write, by its reply: with COMMITTED and INDOUBT the next record, from its gate to
--- the end of the active side; with FAULT what is behind that gate; with any other reply nothing, and
--- the world is as it was
+-- What a step may write, by its reply: with COMMITTED the next record, from its gate on, behind which
+-- nothing is left; with INDOUBT from that gate to the end of the active side; with FAULT what is
+-- behind the gate; with any other reply nothing, and the world is as it was
 abbrev pub StepWrites : Machine → Reply → World → World → Type 0
-StepWrites m (Committed k) old new = WritesWithinLog WritesFromGate m old new
+StepWrites m (Committed k) old new = WritesWithinLog WritesRecord m old new
 StepWrites m (Fault f) old new = WritesWithinLog WritesBehindGate m old new
 StepWrites m (InDoubt k) old new = WritesWithinLog WritesFromGate m old new
 StepWrites m reply old new = new ≡ old

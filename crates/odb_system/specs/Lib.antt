@@ -1,3 +1,4 @@
+pub mod Open
 pub mod Held
 pub mod Durable
 pub mod Kept

@@ -2,6 +2,7 @@
 ghost use Rattle.odb_system.specs.declared.error.SystemError.TheVariants.{NoMemory};
 ghost use Rattle.std.specs.Prelude.{◌≡◌};
 
+use odb_keytable::TableError;
 use std::alloc::AllocError;
 use thiserror::Error;
 
@@ -17,6 +18,14 @@ impl From<AllocError> for SystemError {
     ghost from_gives = { λ _ e. e ≡ NoMemory };
 
     fn from(_error: AllocError) -> SystemError {
+        SystemError::NoMemory
+    }
+}
+
+impl From<TableError> for SystemError {
+    ghost from_gives = { λ _ e. e ≡ NoMemory };
+
+    fn from(_error: TableError) -> SystemError {
         SystemError::NoMemory
     }
 }

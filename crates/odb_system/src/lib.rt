@@ -1,5 +1,5 @@
-//! The machine that answers statements: one history, the log of commits that keeps it, and 64
-//! sessions, over the plain program.
+//! The machine that answers statements: one history, the rows that it makes, the log of commits that
+//! keeps it, and 64 sessions.
 //!
 //! A transaction takes no lock. It collects the ranges that it reads and the rows that it writes,
 //! and its COMMIT asks whether an entry of the history that came after a read wrote a row of its
@@ -7,9 +7,11 @@
 //! disk before the COMMIT is answered.
 #![tactic(auto)]
 
+mod conflict;
 mod error;
+mod executing;
 mod system;
-mod transaction;
+mod taking;
 
 pub use error::SystemError;
 pub use system::System;

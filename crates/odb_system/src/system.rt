@@ -1,26 +1,35 @@
-//! The machine: a history with the log that has it, and the sessions; each statement is one step.
-ghost use Rattle.std.specs.Prelude.{◌≡◌, ◌<◌, replicate, None, IfOk, OnOk, OnErr, IsTrue};
+//! The machine: a history with its rows and the log that has it, and the sessions; each statement is
+//! one step.
+ghost use Rattle.std.specs.Prelude.{◌≡◌, ◌<◌, replicate, None, IfOk, OnOk, OnErr};
 ghost use Rattle.odb_device.specs.World.{file_of, present};
 ghost use Rattle.odb_device.specs.Moments.{Runs};
 ghost use Rattle.odb_system.specs.Held.{none_open};
-ghost use Rattle.odb_plain.specs.Form.{statement_of};
 ghost use Rattle.odb_model.specs.Script.{IsSession};
 
 use crate::SystemError;
-use crate::transaction::Transaction;
+use crate::conflict::first_conflict;
+use crate::executing::run_statement;
+use crate::taking::{placed, rows_after};
 use odb_codec::encode_entry;
 use odb_device::Host;
-use odb_model::{Entries, Entry, Event, Outcome, Reply, SESSIONS, Statement, Writes};
-use odb_plain::{Form, execute_form, first_conflict, form_of, net_writes};
+use odb_keytable::CommittedRows;
+use odb_model::{Entries, Entry, Event, Reply, SESSIONS, Statement, Writes};
 use odb_transdb::{Transdb, TransdbError};
+use odb_txn::Transaction;
 use odb_values::List;
 use std::alloc::{AllocError, Global};
 use std::marker::Model;
 
-/// One history, the log that keeps it, and for each session its open transaction.
-#[derive(Debug, Drop)]
+/// One history, the rows that it makes, the log that keeps it, and for each session its open
+/// transaction.
+///
+/// The rows stand in an ordered map, so that a statement is told them by searches and not by a walk
+/// over the history. Contracts don't see them: they are those that the history makes.
+#[derive(Drop)]
 pub struct System {
     history: List<Entry>,
+    /// The rows of the history; the entries of the last commits may wait to be folded in.
+    rows: CommittedRows,
     sessions: Vec<Option<Transaction>>,
     /// The log of commits, which has each entry of the history.
     transdb: Transdb,
@@ -29,7 +38,7 @@ pub struct System {
 }
 
 impl Model for System {
-    ghost use Rattle.odb_system.specs.Held.{Held, IsHeld};
+    ghost use Rattle.odb_system.specs.Held.{Held, IsHeld, AreRowsOf};
 
     ghost Value = { Held };
 
@@ -45,18 +54,19 @@ impl Model for System {
       sessions = a.sessions.items;
       transdb = a.transdb;
       in_doubt = a.in_doubt;
-    }) };
+    }) × AreRowsOf a.history.items a.rows };
 }
 
 impl System {
     ghost use Rattle.odb_model.specs.declared.event.Event.TheVariants.{Session};
     ghost use Rattle.odb_model.specs.Machine.{Machine, first_machine};
-    ghost use Rattle.odb_system.specs.Held.{session_at, sides_of, Begins, HeldStarts, HeldExecutes, HeldCommits, HeldSeals, HeldRuns, CanSeal, StandsFor, IsOfSession, Follows};
+    ghost use Rattle.odb_system.specs.Held.{session_at, sides_of, Begins, HeldStarts, HeldRollsBack, HeldExecutes, HeldCommits, HeldSeals, HeldRuns, CanSeal, StandsFor, IsOfSession, Follows};
     ghost use Rattle.odb_system.specs.Durable.{IsDurable, HoldsThroughout, Risen, CausedBy, HeldWrites};
     ghost use Rattle.odb_system.specs.Kept.{Rests, Stepped};
 
     /// The machine that begins with these entries, all that the log holds; all sessions are idle.
-    /// It makes no call of a store.
+    /// It makes no call of a store. The entries are gone over once, with a search in the rows for
+    /// each of their writes; they stay in memory, and beside them the rows.
     pub fn start(alloc: Global, transdb: Transdb, entries: Entries) -> Result<System, SystemError>
         requires { Begins transdb entries }
         ensures stands { IfOk result
@@ -65,8 +75,10 @@ impl System {
         ensures history { IfOk result
             (λ system. (system.history ≡ entries) × (system.transdb ≡ transdb)) }
     {
+        let rows = rows_after(alloc, entries.as_slice())?;
         Ok(System {
             history: entries.into_list(),
+            rows,
             sessions: idle_sessions(alloc)?,
             transdb,
             in_doubt: None,
@@ -78,8 +90,14 @@ impl System {
     ///
     /// A COMMIT that leaves writes forces its record: two syncs and three writes of file 0 where
     /// the log's tail is clear. At each moment a crash leaves the history before the step, or the
-    /// one after it. No other statement makes a call of the host. A SELECT or an INSERT goes over
-    /// the whole history once, a COMMIT over the entries since the transaction's first read.
+    /// one after it. No other statement makes a call of the host.
+    ///
+    /// A statement on rows costs what [`odb_exec::execute`] costs over an ordered map and the
+    /// transaction's own writes: where its WHERE fixes the key one search of each, and for a range
+    /// what lies in it. Before it the entries of commits that no statement has followed are folded
+    /// into the map, once each. A COMMIT costs a look at each entry since the transaction's oldest
+    /// read, and memory for the net writes, a copy of them and the image of the entry. ROLLBACK
+    /// takes no memory.
     pub fn step<H: Host>(&mut self, alloc: Global, host: &mut H, event: &Event) -> Reply
         requires session { IsOfSession event.now }
         requires durable { IsDurable self.old (file_of 0 (H.world host.old)) }
@@ -116,28 +134,30 @@ impl System {
         ensures durable { IsDurable self.new (file_of 0 (H.world host.new)) }
         ensures same { self.new.transdb.header ≡ self.old.transdb.header }
     {
-        match form_of(statement) {
-            None => Reply::NotYet,
-            Some(form) => self.run(alloc, host, session as usize - 1, form),
-        }
-    }
-
-    /// A statement of the session at this place.
-    fn run<H: Host>(&mut self, alloc: Global, host: &mut H, at: usize, form: Form) -> Reply
-        requires place { at < SESSIONS }
-        requires durable { IsDurable self.old (file_of 0 (H.world host.old)) }
-        ensures step { HeldRuns self.old at (statement_of form) result self.new }
-        ensures cause { CausedBy self.old result self.new (H.world host.old) (H.world host.new) }
-        ensures writes { HeldWrites self.old result (H.world host.old) (H.world host.new) }
-        ensures run { Runs 0 (HoldsThroughout self.old self.new)
-            (H.world host.old) (H.world host.new) }
-        ensures durable { IsDurable self.new (file_of 0 (H.world host.new)) }
-        ensures same { self.new.transdb.header ≡ self.old.transdb.header }
-    {
-        match form {
-            Form::Start => self.start_transaction(alloc, at),
-            Form::Commit => self.commit(alloc, host, at),
-            Form::Insert { .. } | Form::KeysAbove(_) => self.execute(alloc, at, form),
+        let at = session as usize - 1;
+        match statement {
+            Statement::Start => self.start_transaction(alloc, at),
+            Statement::Commit => self.commit(alloc, host, at),
+            Statement::Rollback => self.roll_back(at),
+            Statement::Select {
+                what: _,
+                table: _,
+                filter: _,
+            } => self.execute(alloc, at, statement),
+            Statement::Insert {
+                table: _,
+                tuples: _,
+            } => self.execute(alloc, at, statement),
+            Statement::Update {
+                table: _,
+                sets: _,
+                filter: _,
+            } => self.execute(alloc, at, statement),
+            Statement::Delete {
+                table: _,
+                filter: _,
+            } => self.execute(alloc, at, statement),
+            _ => Reply::NotYet,
         }
     }
 
@@ -148,33 +168,44 @@ impl System {
         if self.sessions[at].is_some() {
             return Reply::InTransaction;
         }
-        self.sessions[at] = Some(Transaction::new(alloc));
+        self.sessions[at] = Some(Transaction::new(alloc, at as u32 + 1));
         Reply::Okay
     }
 
-    fn execute(&mut self, alloc: Global, at: usize, form: Form) -> Reply
+    /// ROLLBACK. It takes no memory.
+    fn roll_back(&mut self, at: usize) -> Reply
         requires { at < SESSIONS }
-        ensures { HeldExecutes self.old at (statement_of form) (session_at self.old at)
-            result self.new }
+        ensures { HeldRollsBack self.old at (session_at self.old at) result self.new }
+    {
+        if self.sessions[at].is_none() {
+            return Reply::NoTransaction;
+        }
+        self.sessions[at] = None;
+        Reply::Okay
+    }
+
+    /// A statement on rows.
+    fn execute(&mut self, alloc: Global, at: usize, statement: &Statement) -> Reply
+        requires { at < SESSIONS }
+        ensures { HeldExecutes self.old at statement.now (session_at self.old at) result
+            self.new }
     {
         let number = self.history.len() as u64;
         let format = self.transdb.format();
         let Some(transaction) = &mut self.sessions[at] else {
             return Reply::NoTransaction;
         };
-        let history = self.history.as_slice();
-        let Ok(outcome) = execute_form(alloc, form, history, transaction.write_set(), format) else {
-            return Reply::Memory;
-        };
-        let Outcome {
-            reply,
-            writes,
-            reads,
-        } = outcome;
-        if transaction.grow(alloc, number, reads, writes).is_err() {
-            return Reply::Memory;
+        match run_statement(
+            alloc,
+            &mut self.rows,
+            transaction,
+            statement,
+            number,
+            format,
+        ) {
+            Ok(reply) => reply,
+            Err(_) => Reply::Memory,
         }
-        reply
     }
 
     fn commit<H: Host>(&mut self, alloc: Global, host: &mut H, at: usize) -> Reply
@@ -199,7 +230,7 @@ impl System {
             self.sessions[at] = None;
             return Reply::Conflict(later);
         }
-        let Ok(writes) = net_writes(alloc, self.history.as_slice(), transaction.write_set()) else {
+        let Ok(writes) = transaction.net_writes(alloc) else {
             return Reply::Memory;
         };
         if writes.is_empty() {
@@ -238,9 +269,13 @@ impl System {
         let Ok(image) = encode_entry(alloc, &entry) else {
             return Reply::Memory;
         };
+        let Ok(copy) = placed(alloc, &entry) else {
+            return Reply::Memory;
+        };
         match self.transdb.force(host, image.as_slice()) {
             Ok(number) => {
                 self.history.push(entry);
+                self.rows.push(copy);
                 self.sessions[at] = None;
                 Reply::Committed(number)
             }

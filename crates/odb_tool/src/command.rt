@@ -48,16 +48,19 @@ use std::alloc::Global;
 ///   transaction's statements, run alone after the first k - 1 entries of the history, give the
 ///   very replies that they gave, and what they leave written is entry k. Where it is answered
 ///   ENDED p, the same holds after the first p entries, and they leave nothing written.
-/// - **Conflicts are exact.** COMMIT is answered CONFLICT j where entry j is the first of the
-///   history that came after a read of the transaction and wrote a key of the range read, and where
-///   there is no such entry it isn't. A SELECT reads all of its range, rows that aren't there too.
+/// - **Conflicts are exact.** Unless an entry is in doubt, COMMIT is answered CONFLICT j where entry
+///   j is the first of the history that came after a read of the transaction and wrote a key of the
+///   range read, and where there is no such entry it isn't. A SELECT, an UPDATE and a DELETE read
+///   all of their range, rows that aren't there too, and an INSERT its keys; so they do where they
+///   are refused for a row.
 /// - **A full log is told exactly**: FULL comes where the entry's record needs more bytes than the
 ///   side of TRANSDB has left.
 /// - **A fault is counted.** FAULT 0 and INDOUBT are together at most as many as the count of faults
 ///   of TRANSDB rose by in the call: each has a rise of its own, one behind another. INDOUBT comes
-///   only where the whole record but its gate was on the disk. After INDOUBT k every COMMIT is
-///   answered HALTED k.
-/// - Every other reply has its one cause, in the line or in the session's state.
+///   only where the whole record but its gate was on the disk. After INDOUBT k every COMMIT
+///   in a transaction is answered HALTED k.
+/// - Every other reply has its one cause, in the line, in the session's state or in the rows that it
+///   sees.
 ///
 /// **What a crash leaves.** Let a machine keep every image of every file as the call begins: every
 /// image of TRANSDB opens to its history, or to it and one entry in doubt more, as an earlier play
@@ -109,8 +112,9 @@ use std::alloc::Global;
 ///
 /// It waits for nobody, and returns where the calls of the host return. The input is taken in
 /// pieces of 65,536 bytes, of a line no more is kept than a line can have that asks for something,
-/// and each reply is said in as few calls as the console allows. A SELECT or an INSERT goes over
-/// the whole history once; a COMMIT with writes syncs TRANSDB twice.
+/// and each reply is said in as few calls as the console allows. A statement that names its key
+/// costs a search, one over a range the rows in it. A COMMIT looks at the writes since the
+/// transaction's oldest read, and with writes of its own it syncs TRANSDB twice.
 pub fn run<H: Host>(alloc: Global, words: &[String], host: &mut H) -> Status
     ensures usage { ¬ (IsCommand (map string_bytes words.now)) → result ≡ Status.Usage }
     ensures usage_only { result ≡ Status.Usage → ¬ (IsCommand (map string_bytes words.now)) }

@@ -1,6 +1,6 @@
 -- What the steps of a commit leave.
 use Rattle.std.proofs.Common.{◌≡◌, ◌⊎◌, inl, inr, ℕ, ◌+◌, ◌-◌, ◌≤◌, true, false, List, [], ◌∷◌, ◌++◌, length, Option, Some, None, Ok, refl, sym, ◌∙◌, ap, subst, arith, length-append}
-use Rattle.std.specs.Prelude.{is_some, IfSome, OnOk, OnErr, Result, Err}
+use Rattle.std.specs.Prelude.{is_some, IfSome, IfOk, OnOk, OnErr, Result, Err}
 use Rattle.odb_device.specs.World.{File, World, file_of}
 use Rattle.odb_device.specs.Images.{EachImage, ReadsImage, TornFrom}
 use Rattle.odb_device.specs.Moments.{Runs, WritesWithin}
@@ -21,6 +21,7 @@ use Rattle.odb_transdb.specs.Standing.{Db, IsDb, Stands, IsSettledIn}
 use Rattle.odb_transdb.specs.Answers.{HoldsAll, HoldsAllOrMore}
 use Rattle.odb_transdb.specs.Steps.{IsWritten}
 use Rattle.odb_transdb.specs.Worlds.{KeepsOrAddsEntry, WritesBehindGate, RewritesTail}
+use Rattle.odb_transdb.specs.Leaving.{MovesOn}
 use Rattle.odb_transdb.proofs.Opened.{Has, has_holds}
 use Rattle.odb_transdb.proofs.Sides.{IsInside, has_more}
 use Rattle.odb_transdb.proofs.Standing.{log_list, stands_has, stands_pair, stands_log, stands_live, has_all, entries_read, entries_same, stands_made, pair_stays, adds_torn, with_active, is_db_with, side_with, region_of, low_active, live_stays, keeps_torn, keeps_has, adds_has, keeps_stands}
@@ -302,6 +303,11 @@ module _ (db : Db) (log : Log) (w now : World) (ready : IsReady db w) (run : Run
     pub opening_stands : Stands (with_active db log) (file_of 0 now)
     opening_stands =
         gate_stands db ready.is ready.room w now ready.stands ready.reads at_zero e written log reads (subst (λ (k : ℕ). LogStands log (file_of k now)) ready.is.active.file active) same (subst HasList ready.is.active.file list) next
+
+-- where it goes on
+pub moves_on : {E : Type 0} (r : Result ℕ E) (old new : Log) (w now : World) → IfOk r (λ n. n ≡ old.next) → OnOk r (IsAdded old new w now) → IfOk r (λ n. MovesOn n old new)
+moves_on (Ok n) old new w now number added = record { number_is = number; next = added.next; place = added.place; clear = added.clear; usable = added.usable }
+moves_on (Err e) old new w now number added = tt
 
 -- the log goes on no earlier than before
 pub gate_moves : {T E : Type 0} (old new : Log) (w now : World) (r : Result T E) → old.place ≤ old.clear_from → OnOk r (IsAdded old new w now) → OnErr r (new ≡ record old { in_doubt = true })

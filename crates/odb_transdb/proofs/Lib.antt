@@ -16,3 +16,4 @@ pub mod Begun
 pub mod Finds
 pub mod Pairs
 pub mod Gates
+pub mod Leaving

@@ -45,7 +45,7 @@ open_run w mid now reads first is second =
     let o = file_of 0 w in
     joins 0 (KeepsOpened o) w mid now (pair_run w mid first) (weakens 0 (KeepsOpened (file_of 0 mid)) (KeepsOpened o) mid now (λ p keeps. kept_opens o (file_of 0 mid) p reads is keeps) second)
 
-gates_kept : (o now : Option File) → now ≡ option_map kept o → ClosesGates o now
+pub gates_kept : (o now : Option File) → now ≡ option_map kept o → ClosesGates o now
 gates_kept None now is = tt
 gates_kept (Some f) now is = subst (ClosesGates (Some f)) (sym is) (refl, λ i. inl refl)
 

@@ -6,3 +6,4 @@ pub mod Steps
 pub mod Walking
 pub mod Opening
 pub mod Worlds
+pub mod Leaving

@@ -1,8 +1,8 @@
 -- What calls of TRANSDB leave of file 0, said of the worlds before and after them.
-use Rattle.std.specs.Prelude.{◌≡◌, ◌+◌, ◌-◌, ◌≤◌, ℕ, true, false, List, [], ◌∷◌, ◌++◌, length, IsTrue, IfSome, Some, Result, OnOk}
+use Rattle.std.specs.Prelude.{◌≡◌, ◌≢◌, ◌+◌, ◌-◌, ◌≤◌, ℕ, true, false, List, [], ◌∷◌, ◌++◌, length, IsTrue, IfSome, Some, Result, Err, OnOk, IfOk}
 use Rattle.odb_device.specs.World.{World, file_of}
 use Rattle.odb_device.specs.Images.{EachImage, IsKept}
-use Rattle.odb_device.specs.Calls.{FileCountRose, IsOnePut}
+use Rattle.odb_device.specs.Calls.{FileCountRose, IsOnePut, Keeps}
 use Rattle.odb_device.specs.Moments.{Runs, WritesWithin}
 use Rattle.odb_device.specs.TornSets.{TornInFrom}
 use Rattle.odb_device.specs.Zeros.{AreZero}
@@ -10,11 +10,13 @@ use Rattle.odb_pair.specs.Places.{opened as pair_opened, holding as holding_valu
 use Rattle.odb_pair.specs.Standing.{PairState, StandsFor as PairStandsFor}
 use Rattle.odb_reclog.specs.Told.{IfTold}
 use Rattle.odb_reclog.specs.Regions.{region, TearsOpenEnd}
-use Rattle.odb_reclog.specs.Records.{OPEN, HEAD, payload_at}
+use Rattle.odb_reclog.specs.Records.{OPEN, HEAD, payload_at, log_of, end_of_list}
 use Rattle.odb_reclog.specs.Standing.{HasItsBody}
 use Rattle.odb_model.specs.declared.entry.Entry.{Entry}
 use Rattle.odb_model.specs.State.{IsNumberedFrom}
 use Rattle.odb_transdb.specs.declared.header.Header.{Header}
+use Rattle.odb_transdb.specs.declared.error.TransdbError.{TransdbError}
+use Rattle.odb_transdb.specs.declared.error.TransdbError.TheVariants.{NoDatabase, Fault}
 use Rattle.odb_transdb.specs.Header.{header_image, is_header, side_start, side_end, first_on, active_first, first_held}
 use Rattle.odb_transdb.specs.Opened.{entries_in}
 use Rattle.odb_transdb.specs.Opening.{KeepsSide}
@@ -63,6 +65,18 @@ KeepsOrAddsEntry db e old new = Runs 0 (HoldsAllOrMore db (entries_in (file_of 0
 abbrev pub Settles : Db → Db → World → World → Type 0
 Settles old new before after = IsSettledIn (file_of 0 before) (file_of 0 after) old new
 
+-- What an opening with this result leaves of file 0. At each moment each image opens as one from
+-- before, and is one from before but for open gates where the lists of the sides that hold entries
+-- end. At the end, unless a call failed, each of these gates reads as before or is closed. Where
+-- there is no database nothing was written, and after Ok the entries are as before
+pub record LeavesOpened {T : Type 0} (result : Result T TransdbError) (old new : World) :
+    Type 0 where
+  pub run : OpensAsBefore old new
+  pub gates : OnlyClosesGates old new
+  pub closed : result ≢ Err Fault → HasClosedGates old new
+  pub nothing : result ≡ Err NoDatabase → Keeps 0 old new
+  pub entries : IfOk result (λ _. SameEntries old new)
+
 -- what an opening finds: what is held stands, a record may be forced, and the entries are all of
 -- those held
 pub record IsOpened (db : Db) (entries : List Entry) (after : World) : Type 0 where
@@ -93,11 +107,20 @@ pub record PutsEntry {T E : Type 0} (db : Db) (e : Entry) (result : Result T E) 
   pub run : KeepsOrAddsEntry db e old new
   pub added : OnOk result (AddsEntry e old new)
 
--- after a record of n bytes of payload was added, what is held stands, and the next one goes behind
--- it
+-- in each image all is zeros behind the gate where the list of the active side ends
+abbrev pub HasClearTail : Db → World → Type 0
+HasClearTail db w =
+    let log = db.active in
+    EachImage (λ image.
+    let place = end_of_list log.start (log_of log.start log.end log.first image) in
+    AreZero (place + 1) log.end image) (file_of 0 w)
+
+-- after a record of n bytes of payload was added, what is held stands, the next one goes behind it,
+-- and there all is clear
 pub record IsForced (n : ℕ) (old new : Db) (after : World) : Type 0 where
   pub stands : Stands new (file_of 0 after)
   pub advanced : IsAdvanced (HEAD + n) old new
+  pub clear : HasClearTail old after
 
 -- Only what is behind the gate of the next record changes: at each moment each image is one from
 -- before, but for bytes of the active side behind that gate. So the gate isn't written
@@ -111,6 +134,11 @@ abbrev pub WritesFromGate : Db → World → World → Type 0
 WritesFromGate db old new =
     let from = db.active.place in
     WritesWithin 0 from (db.active.end - from) old new
+
+-- and at the end nothing stands behind the last record, so the record is all that is left of the
+-- writes
+abbrev pub WritesRecord : Db → World → World → Type 0
+WritesRecord db old new = WritesFromGate db old new × HasClearTail db new
 
 -- a stretch of writes behind the gate, at one moment of which all behind it was zeros on the disk:
 -- what stands there at its end was written in it
@@ -130,8 +158,9 @@ pub record FaultedBefore (old new : Db) (before after : World) : Type 0 where
 
 -- The file's count rose from the gate's write on. At a moment of this stretch, the last of `mid`,
 -- the tail had been made zeros, and the whole record but its gate was written and on the disk;
--- until then each image held just the entries before. From then on the only calls are the gate's
--- write and the sync behind it, no other byte than the gate may have changed, and the count rose
+-- until then each image held just the entries before. From then on no call failed or changed anything
+-- but the gate's write and the sync behind it, or one failed in its place and changed nothing; no
+-- other byte than the gate may have changed, and the count rose
 pub record RoseAtGate (db : Db) (payload : List ℕ) (old new : World) : Type 0 where
   pub mid : World
   pub before : KeepsEntries db old mid

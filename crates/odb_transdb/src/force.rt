@@ -3,7 +3,7 @@ ghost use Rattle.std.specs.Prelude.{◌≡◌, ℕ, ◌+◌, ◌≤◌, false, [
 ghost use Rattle.odb_device.specs.World.{file_of};
 ghost use Rattle.odb_device.specs.Calls.{FileCountRose, IsOnePut};
 ghost use Rattle.odb_device.specs.Moments.{WritesWithin};
-ghost use Rattle.odb_reclog.specs.Records.{OPEN};
+ghost use Rattle.odb_reclog.specs.Records.{OPEN, HEAD};
 ghost use Rattle.odb_codec.specs.Reading.{read_entry};
 ghost use Rattle.odb_model.specs.declared.entry.Entry.{Entry};
 
@@ -15,6 +15,7 @@ use odb_reclog::RecError;
 impl Transdb {
     ghost use Rattle.odb_transdb.specs.Standing.{Stands, IsPlaced, AreAlikePlaced, SamePlace};
     ghost use Rattle.odb_transdb.specs.Answers.{IsEntryImage, IsForceAnswer};
+    ghost use Rattle.odb_transdb.specs.Leaving.{MovesOn};
     ghost use Rattle.odb_transdb.specs.Worlds.{KeepsEntries, PutsEntry, IsForced, FaultedBefore, LeavesInDoubt, WritesBehindGate, WritesFromGate, Settles, IsRecorded, IsWrittenIn, IsAtGate};
 
     /// Adds an entry, whose image these bytes are, and answers its number once it is on the disk.
@@ -25,15 +26,16 @@ impl Transdb {
     /// side once, or writes what a broken record may have left, with one sync more where it wrote.
     ///
     /// At each moment a crash leaves the entries before, or those and this one; after Ok the
-    /// latter.
+    /// latter, and nothing behind its record.
     ///
     /// - `Full`: the record needs more bytes than the side has left. No call of the store was made.
     /// - `FaultBefore`: a call of the store failed before the gate was written, and the entry isn't
     ///   there. The call may be made again.
-    /// - `InDoubt`: the file's count rose in the gate's write or in the sync behind it; before them
-    ///   the record had been written in this call and was on the disk, and beside them no call was
-    ///   made from then on. A crash leaves the entry or not. Only a new opening, and the calls that
-    ///   take no store, may follow.
+    /// - `InDoubt`: the file's count rose in the gate's write or in the sync behind it, or in a call
+    ///   that failed in the place of that write and changed nothing; before them the record had been
+    ///   written in this call and was on the disk, and beside them no call failed or changed anything
+    ///   from then on. A crash leaves the entry or not. Only a new opening, and the calls that take
+    ///   no store, may follow.
     pub fn force<S: Store>(&mut self, store: &mut S, payload: &[u8]) -> Result<u64, TransdbError>
         requires usable { self.old.active.in_doubt ≡ false }
         requires payload { IsEntryImage payload.now }
@@ -70,7 +72,7 @@ impl Transdb {
     /// Clears the tail and writes a record behind the closed gate: on the disk after Ok.
     fn write_record<S: Store>(&mut self, store: &mut S, payload: &[u8]) -> Result<(), RecError>
         requires usable { self.old.active.in_doubt ≡ false }
-        requires fits { self.old.active.place + 13 + length payload.now ≤ self.old.active.end }
+        requires fits { self.old.active.place + HEAD + length payload.now ≤ self.old.active.end }
         requires stands { Stands self.old (file_of 0 (S.world store.old)) }
         ensures run { KeepsEntries self.old (S.world store.old) (S.world store.new) }
         ensures settled { Settles self.old self.new (S.world store.old) (S.world store.new) }
@@ -97,10 +99,7 @@ impl Transdb {
             → PutsEntry self.old e result (S.world store.old) (S.world store.new) }
         ensures stands { (e : Entry) → IsWrittenIn self.old e (S.world store.old)
             → OnOk result (Stands self.new (file_of 0 (S.world store.new))) }
-        ensures number { IfOk result (λ n. n ≡ self.old.active.next) }
-        ensures ok { OnOk result ((self.new.active.next ≡ self.old.active.next + 1)
-            × (self.new.active.place ≡ self.old.active.clear_from)
-            × (self.new.active.in_doubt ≡ false)) }
+        ensures opened { IfOk result (λ n. MovesOn n self.old.active self.new.active) }
         ensures err { OnErr result (SamePlace self.old self.new) }
         ensures same { self.new.header ≡ self.old.header }
         ensures placed { IsPlaced self.new }

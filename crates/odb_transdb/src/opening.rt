@@ -1,20 +1,19 @@
 //! Opening TRANSDB, with each check that its bytes are in order.
-ghost use Rattle.std.specs.Prelude.{◌≡◌, ◌≢◌, ◌⊎◌, ℕ, ◌+◌, ◌-◌, ◌<◌, ◌≤◌, ◌++◌, true, false, length, drop, option_map, Some, None, IsTrue, IsSome, IfSome, IfOk, IfErr, Ok, Err};
+ghost use Rattle.std.specs.Prelude.{◌≡◌, ◌≢◌, ◌⊎◌, ℕ, ◌+◌, ◌<◌, ◌≤◌, ◌++◌, true, false, length, Some, IsTrue, IsSome, IfOk, IfErr, Err};
 ghost use Rattle.odb_device.specs.World.{file_of};
 ghost use Rattle.odb_device.specs.Images.{EachImage, part};
 ghost use Rattle.odb_device.specs.Calls.{FileCountRose, HasCause, Keeps};
 ghost use Rattle.odb_pair.specs.Places.{opened as pair_opened};
 ghost use Rattle.odb_pair.specs.Standing.{StandsFor as PairStandsFor};
-ghost use Rattle.odb_reclog.specs.Standing.{Stands as LogStands};
 ghost use Rattle.odb_reclog.specs.Told.{IfTold, OnlyReads, TearsOnly};
-ghost use Rattle.odb_model.specs.declared.side.OtherSide.TheVariants.{Live};
-ghost use Rattle.odb_transdb.specs.Header.{is_header, file_size, other_of, active_first};
-ghost use Rattle.odb_transdb.specs.Opened.{opened, first_other_place, side_list, side_entries, with_sides, with_header};
-ghost use Rattle.odb_transdb.specs.Standing.{IsOfSide, Stands};
+ghost use Rattle.odb_transdb.specs.Header.{is_header, file_size};
+ghost use Rattle.odb_transdb.specs.Opened.{opened, first_other_place, side_entries, with_sides, with_header};
+ghost use Rattle.odb_transdb.specs.Standing.{Stands};
 ghost use Rattle.odb_transdb.specs.Answers.{IsAnswerBy, IsOpenAnswer, IsFullAnswer, IsOpenRefusal, FailsAsRead};
-ghost use Rattle.odb_transdb.specs.Walking.{live_read, IsReadOf, AddsPart};
-ghost use Rattle.odb_transdb.specs.Worlds.{OpensAsBefore, OnlyClosesGates, HasClosedGates, TearsSideEnd, SameEntries, IsOpened, HasPair, KeepsSideOf, LeadsToActive};
-ghost use Rattle.odb_transdb.specs.Opening.{IsPairFound, IsFirstOther, IsUnless, IsChecked, EndsRight, GoesOn, IsCounted, IsLiveLog};
+ghost use Rattle.odb_transdb.specs.Walking.{IsReadOf};
+ghost use Rattle.odb_transdb.specs.Worlds.{LeavesOpened, IsOpened, HasPair};
+ghost use Rattle.odb_transdb.specs.Leaving.{LeavesSide, LeavesOther, IsSideOpened, IsLiveOpened, IsActiveOpened};
+ghost use Rattle.odb_transdb.specs.Opening.{IsPairFound, IsFirstOther, IsUnless, IsChecked, EndsRight};
 
 use crate::header::Header;
 use crate::reading::add_payloads;
@@ -44,14 +43,8 @@ impl Transdb {
     pub fn open<S: Store>(alloc: Global, store: &mut S) -> Result<Transdb, TransdbError>
         ensures answer { IfTold 0 (S.world store.old)
             (λ bytes. IsOpenAnswer result (opened bytes)) }
-        ensures run { OpensAsBefore (S.world store.old) (S.world store.new) }
-        ensures bytes { OnlyClosesGates (S.world store.old) (S.world store.new) }
-        ensures closed { result ≢ Err TransdbError.Fault
-            → HasClosedGates (S.world store.old) (S.world store.new) }
-        ensures nothing { result ≡ Err TransdbError.NoDatabase
-            → Keeps 0 (S.world store.old) (S.world store.new) }
+        ensures leaves { LeavesOpened result (S.world store.old) (S.world store.new) }
         ensures stands { IfOk result (λ db. Stands db (file_of 0 (S.world store.new))) }
-        ensures entries { IfOk result (λ _. SameEntries (S.world store.old) (S.world store.new)) }
         ensures usable { IfOk result (λ db. db.active.in_doubt ≡ false) }
         ensures refusal { IsOpenRefusal result }
         ensures cause { result ≡ Err TransdbError.Fault
@@ -86,15 +79,9 @@ impl Transdb {
     ) -> Result<OpenedTransdb, TransdbError>
         ensures answer { IfTold 0 (S.world store.old)
             (λ bytes. IsFullAnswer result (opened bytes)) }
-        ensures run { OpensAsBefore (S.world store.old) (S.world store.new) }
-        ensures bytes { OnlyClosesGates (S.world store.old) (S.world store.new) }
-        ensures closed { result ≢ Err TransdbError.Fault
-            → HasClosedGates (S.world store.old) (S.world store.new) }
-        ensures nothing { result ≡ Err TransdbError.NoDatabase
-            → Keeps 0 (S.world store.old) (S.world store.new) }
+        ensures leaves { LeavesOpened result (S.world store.old) (S.world store.new) }
         ensures opened { IfOk result
             (λ found. IsOpened found.transdb found.entries (S.world store.new)) }
-        ensures entries { IfOk result (λ _. SameEntries (S.world store.old) (S.world store.new)) }
         ensures refusal { IsOpenRefusal result }
         ensures cause { result ≡ Err TransdbError.Fault
             → FileCountRose 0 (S.world store.old) (S.world store.new) }
@@ -137,23 +124,20 @@ fn open_sides<S: Store>(
 ) -> Result<OpenedTransdb, TransdbError>
     requires found { HasPair pair header (S.world store.old) }
     ensures answer { IfTold 0 (S.world store.old) (λ bytes. IsFullAnswer result (opened bytes)) }
-    ensures run { OpensAsBefore (S.world store.old) (S.world store.new) }
-    ensures bytes { OnlyClosesGates (S.world store.old) (S.world store.new) }
-    ensures closed { result ≢ Err TransdbError.Fault
-        → HasClosedGates (S.world store.old) (S.world store.new) }
+    ensures leaves { LeavesOpened result (S.world store.old) (S.world store.new) }
     ensures opened { IfOk result
         (λ found. IsOpened found.transdb found.entries (S.world store.new)) }
-    ensures entries { IfOk result (λ _. SameEntries (S.world store.old) (S.world store.new)) }
     ensures fails { FailsAsRead 0 result (S.world store.old) (S.world store.new) }
 {
     check_sides(store, &header)?;
-    let (live, mut entries) = open_live(alloc, store, &header)?;
+    let other = open_live(alloc, store, &header)?;
+    let mut entries = other.entries;
     let active = open_active(alloc, store, &header, &mut entries)?;
     let transdb = Transdb {
         header,
         pair,
         active,
-        live,
+        live: other.log,
     };
     Ok(OpenedTransdb {
         transdb,
@@ -249,20 +233,9 @@ fn open_side<S: Store>(
     requires lawful { IsTrue (is_header header.now) }
     requires side { side ≤ 1 }
     requires long { IfTold 0 (S.world store.old) (λ bytes. file_size header.now ≤ length bytes) }
-    ensures run { KeepsSideOf header.now side (S.world store.old) (S.world store.new) }
-    ensures stands { IfOk result (λ found. LogStands found.log (file_of 0 (S.world store.new))) }
-    ensures side { IfOk result (λ found. IsOfSide header.now side found.log) }
-    ensures ends { IfTold 0 (S.world store.old)
-        (λ bytes. IfOk result (λ found. GoesOn header.now side bytes found.log)) }
-    ensures payloads { IfTold 0 (S.world store.old)
-        (λ bytes. IfOk result (λ found. found.payloads ≡ side_list header.now side bytes)) }
-    ensures still { IfTold 0 (S.world store.new)
-        (λ bytes. IfOk result (λ found. found.payloads ≡ side_list header.now side bytes)) }
-    ensures count { IfOk result (λ found. IsCounted header.now side found.log found.payloads) }
-    ensures usable { IfOk result (λ found. found.log.in_doubt ≡ false) }
-    ensures gate { TearsSideEnd header.now side (S.world store.old) (S.world store.new) }
-    ensures closed { result ≢ Err TransdbError.Fault
-        → HasClosedGates (S.world store.old) (S.world store.new) }
+    ensures leaves { LeavesSide header.now side result (S.world store.old) (S.world store.new) }
+    ensures opened { IfOk result (λ found. IsSideOpened header.now side found.log found.payloads
+        (S.world store.old) (S.world store.new)) }
     ensures refusal { IfErr result (λ e. (e ≡ TransdbError.Fault) ⊎ (e ≡ TransdbError.NoMemory)) }
     ensures cause { result ≡ Err TransdbError.Fault
         → FileCountRose 0 (S.world store.old) (S.world store.new) }
@@ -276,37 +249,33 @@ fn open_side<S: Store>(
     }
 }
 
+/// What the side that isn't active holds: where it is Live its log and its entries, else nothing.
+#[derive(Debug, Drop)]
+struct LiveSide {
+    log: Option<RecLog>,
+    entries: List<Entry>,
+}
+
 /// The log of the other side where it is Live, and its entries. Refuses one that doesn't end where
 /// the active side begins, at its end, and a record that is no entry, at its place.
 fn open_live<S: Store>(
     alloc: Global,
     store: &mut S,
     header: &Header,
-) -> Result<(Option<RecLog>, List<Entry>), TransdbError>
+) -> Result<LiveSide, TransdbError>
     requires lawful { IsTrue (is_header header.now) }
     requires long { IfTold 0 (S.world store.old) (λ bytes. file_size header.now ≤ length bytes) }
-    ensures live { header.now.other ≡ Live
-        → KeepsSideOf header.now (other_of header.now) (S.world store.old) (S.world store.new) }
-    ensures quiet { header.now.other ≢ Live → OnlyReads 0 (S.world store.old) (S.world store.new) }
+    ensures leaves { LeavesOther header.now result (S.world store.old) (S.world store.new) }
     ensures told { IfTold 0 (S.world store.old)
         (λ bytes. IsAnswerBy (λ _ _. EndsRight header.now bytes) result
         (with_sides header.now header.now.other bytes)) }
-    ensures read { IfTold 0 (S.world store.new)
-        (λ bytes. IfOk result (λ found. live_read header.now header.now.other bytes
-        ≡ Ok found.1.items)) }
-    ensures numbers { IfOk result (λ found. LeadsToActive header.now found.1.items) }
-    ensures log { IfOk result (λ found. IsLiveLog header.now found.0) }
-    ensures stands { IfOk result (λ found. IfSome found.0
-        (λ log. LogStands log (file_of 0 (S.world store.new)))) }
-    ensures gate { header.now.other ≡ Live
-        → TearsSideEnd header.now (other_of header.now) (S.world store.old) (S.world store.new) }
-    ensures closed { result ≢ Err TransdbError.Fault
-        → HasClosedGates (S.world store.old) (S.world store.new) }
+    ensures opened { IfOk result
+        (λ found. IsLiveOpened header.now found.log found.entries.items (S.world store.new)) }
     ensures fails { FailsAsRead 0 result (S.world store.old) (S.world store.new) }
 {
     let mut entries = List::new(alloc);
     if header.other != OtherSide::Live {
-        return Ok((None, entries));
+        return Ok(LiveSide { log: None, entries });
     }
     let side = header.other_side();
     let found = open_side(alloc, store, header, side)?;
@@ -316,7 +285,10 @@ fn open_live<S: Store>(
         });
     }
     add_payloads(alloc, header, side, found.payloads, &mut entries)?;
-    Ok((Some(found.log), entries))
+    Ok(LiveSide {
+        log: Some(found.log),
+        entries,
+    })
 }
 
 /// The log of the active side. Its entries are added to those of the other side; refuses a record
@@ -329,22 +301,13 @@ fn open_active<S: Store>(
 ) -> Result<RecLog, TransdbError>
     requires lawful { IsTrue (is_header header.now) }
     requires long { IfTold 0 (S.world store.old) (λ bytes. file_size header.now ≤ length bytes) }
-    ensures run { KeepsSideOf header.now header.now.active (S.world store.old) (S.world store.new) }
+    ensures leaves { LeavesSide header.now header.now.active result
+        (S.world store.old) (S.world store.new) }
     ensures told { IfTold 0 (S.world store.new)
         (λ bytes. IsReadOf (λ all _. entries.new.items ≡ entries.old.items ++ all)
         (side_entries header.now header.now.active bytes) result) }
-    ensures part { IfOk result (λ log. AddsPart (active_first header.now)
-        (active_first header.now) log.next
-        (log.place - log.start) entries.old.items entries.new.items) }
-    ensures stands { IfOk result (λ log. LogStands log (file_of 0 (S.world store.new))) }
-    ensures side { IfOk result (λ log. IsOfSide header.now header.now.active log) }
-    ensures least { IfOk result (λ log. (active_first header.now ≤ log.next)
-        × (log.start ≤ log.place)) }
-    ensures usable { IfOk result (λ log. log.in_doubt ≡ false) }
-    ensures gate { TearsSideEnd header.now header.now.active
-        (S.world store.old) (S.world store.new) }
-    ensures closed { result ≢ Err TransdbError.Fault
-        → HasClosedGates (S.world store.old) (S.world store.new) }
+    ensures opened { IfOk result (λ log. IsActiveOpened header.now log
+        entries.old.items entries.new.items (S.world store.new)) }
     ensures fails { FailsAsRead 0 result (S.world store.old) (S.world store.new) }
 {
     let found = open_side(alloc, store, header, header.active)?;

@@ -4,14 +4,14 @@ ghost use Rattle.odb_device.specs.World.{file_of};
 ghost use Rattle.odb_device.specs.Calls.{FileCountRose};
 ghost use Rattle.odb_reclog.specs.Told.{IfTold, OnlyReads};
 ghost use Rattle.odb_reclog.specs.Reading.{CanRead};
-ghost use Rattle.odb_reclog.specs.Records.{end_of_list};
+ghost use Rattle.odb_reclog.specs.Records.{HEAD, end_of_list};
 ghost use Rattle.odb_reclog.specs.Standing.{Stands as LogStands};
 ghost use Rattle.odb_reclog.specs.Windows.{Shows};
 ghost use Rattle.odb_model.specs.Width.{records_width};
 ghost use Rattle.odb_transdb.specs.Header.{side_start, first_on, first_held, active_first};
-ghost use Rattle.odb_transdb.specs.Standing.{AreSides};
 ghost use Rattle.odb_transdb.specs.Opened.{entries_from};
 ghost use Rattle.odb_transdb.specs.Answers.{IsReadRefusal, FailsAsRead};
+ghost use Rattle.odb_transdb.specs.Leaving.{CanReadSides};
 ghost use Rattle.odb_transdb.specs.Walking.{live_read, sides_read, log_entries, log_record, IsReadOf, IsRecordOf, IsEntryOf, AddsPart, AddsPayloads, AddsSome, AreUpTo, AreSome};
 
 use crate::transdb::HEAD_SIZE;
@@ -86,11 +86,9 @@ fn add_sides<S: Store>(
     from: u64,
     entries: &mut List<Entry>,
 ) -> Result<(), TransdbError>
-    requires sides { AreSides header.now live.now active.now }
+    requires readable { CanReadSides header.now live.now active.now from (S.world store.old) }
     requires usable { active.now.in_doubt ≡ false }
-    requires from { first_held header.now ≤ from }
     requires active { LogStands active.now (file_of 0 (S.world store.old)) }
-    requires live { IfSome live.now (λ log. LogStands log (file_of 0 (S.world store.old))) }
     requires none { entries.old.items ≡ [] }
     ensures run { OnlyReads 0 (S.world store.old) (S.world store.new) }
     ensures told { IfTold 0 (S.world store.old) (λ bytes. IsReadOf
@@ -120,9 +118,7 @@ fn add_live<S: Store>(
     from: u64,
     entries: &mut List<Entry>,
 ) -> Result<(), TransdbError>
-    requires sides { AreSides header.now live.now active.now }
-    requires from { first_held header.now ≤ from }
-    requires live { IfSome live.now (λ log. LogStands log (file_of 0 (S.world store.old))) }
+    requires readable { CanReadSides header.now live.now active.now from (S.world store.old) }
     requires none { entries.old.items ≡ [] }
     ensures run { OnlyReads 0 (S.world store.old) (S.world store.new) }
     ensures told { IfTold 0 (S.world store.old) (λ bytes. IsReadOf
@@ -252,7 +248,7 @@ fn record_at<S: Store>(
     ensures told { IfTold log.now.file (S.world store.old)
         (λ bytes. IsRecordOf (log_record log.now at bytes) at number result) }
     ensures found { IfOk result (λ r. (r.number ≡ number) × (number < log.now.next)
-        × (r.next ≤ log.now.place) × (r.next ≡ at + 13 + length r.payload)) }
+        × (r.next ≤ log.now.place) × (r.next ≡ at + HEAD + length r.payload)) }
     ensures shows { OnOk result (Shows window.new (file_of log.now.file (S.world store.old))) }
     ensures fails { FailsAsRead log.now.file result (S.world store.old) (S.world store.new) }
 {

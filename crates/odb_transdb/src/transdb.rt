@@ -48,7 +48,8 @@ impl Transdb {
 
     /// The format of the database: 1.
     pub fn format(&self) -> u16
-        ensures { result ≡ self.now.header.format }
+        ensures value { result ≡ self.now.header.format }
+        ensures always { result ≡ 1 }
     {
         self.header.format
     }

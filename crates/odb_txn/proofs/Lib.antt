@@ -4,3 +4,4 @@ pub mod Alike
 pub mod Told
 pub mod Stands
 pub mod Nets
+pub mod Counted

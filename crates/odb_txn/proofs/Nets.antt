@@ -62,7 +62,7 @@ AreAscending-filter p (i ∷ intentions) h =
       | false ↦ rest
     ]
 
-keys_of_intended : (intentions : List Intention) → table_keys (map intended_write intentions) ≡ map (λ i. i.table_key) intentions
+pub keys_of_intended : (intentions : List Intention) → table_keys (map intended_write intentions) ≡ map (λ i. i.table_key) intentions
 keys_of_intended [] = refl
 keys_of_intended (i ∷ intentions) = ap (λ keys. i.table_key ∷ keys) (keys_of_intended intentions)
 

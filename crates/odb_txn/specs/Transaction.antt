@@ -1,5 +1,5 @@
 -- What is kept of an open transaction, and for which transaction it stands.
-use Rattle.std.specs.Prelude.{◌≡◌, ℕ, ◌≤◌, Bool, true, false, List, [], length}
+use Rattle.std.specs.Prelude.{◌≡◌, ℕ, ◌≤◌, Bool, true, false, List, [], length, map}
 use Rattle.std.specs.List.{All}
 use Rattle.odb_model.specs.declared.entry.Entry.{Entry}
 use Rattle.odb_model.specs.declared.outcome.Outcome.{Outcome}
@@ -7,6 +7,7 @@ use Rattle.odb_model.specs.declared.outcome.Read.{Read}
 use Rattle.odb_model.specs.declared.intention.Intention.{Intention}
 use Rattle.odb_model.specs.declared.statement.Statement.{Statement}
 use Rattle.odb_model.specs.declared.statement.Statement.TheVariants.{Insert}
+use Rattle.odb_model.specs.declared.table_key.TableKey.{TableKey}
 use Rattle.odb_model.specs.Meaning.{most_writes}
 use Rattle.odb_model.specs.Reads.{reads}
 use Rattle.odb_model.specs.Transaction.{Executed, open_state, open_meaning, write_set_of, reads_of, read_at}
@@ -25,6 +26,10 @@ pub record Kept : Type 0 where
 -- of one that has done nothing yet
 abbrev pub nothing_kept : ℕ → Kept
 nothing_kept session = record { session = session; reads = []; own = [] }
+
+-- the table keys that it has written
+abbrev pub own_keys : Kept → List TableKey
+own_keys kept = map (λ i. i.table_key) kept.own
 
 -- Whether a statement writes rows that are there before it. An INSERT doesn't: it is refused where a
 -- row is there. An UPDATE or a DELETE does: it writes the rows that it finds

@@ -6,15 +6,15 @@ ghost use Rattle.odb_model.specs.declared.outcome.Outcome.{Outcome};
 ghost use Rattle.odb_model.specs.declared.outcome.Read.{Read};
 ghost use Rattle.odb_model.specs.declared.statement.Statement.{Statement};
 ghost use Rattle.odb_model.specs.declared.table_key.TableKey.{TableKey};
-ghost use Rattle.odb_model.specs.State.{State, IsHistory, replay};
+ghost use Rattle.odb_model.specs.State.{State, IsHistory, after_writes, replay};
 ghost use Rattle.odb_model.specs.Meaning.{meaning};
-ghost use Rattle.odb_model.specs.Transaction.{Executed, write_set_of, net, reads_of, first_conflict, conflict};
+ghost use Rattle.odb_model.specs.Transaction.{Executed, meaning_over, write_set_of, net, reads_of, first_conflict, conflict};
 ghost use Rattle.odb_model.specs.Intentions.{intended};
 ghost use Rattle.odb_model.specs.Serial.{HasOpenReplies};
-ghost use Rattle.odb_model.specs.Storable.{AreStorable};
-ghost use Rattle.odb_rowsource.specs.Intentions.{Tells};
+ghost use Rattle.odb_model.specs.Storable.{AreStorable, HasKeys};
+ghost use Rattle.odb_rowsource.specs.Intentions.{laid_over, Tells};
 ghost use Rattle.odb_txn.specs.ReadSet.{AreOrdered, JudgeAlike, keep_all, oldest_number};
-ghost use Rattle.odb_txn.specs.Transaction.{Kept, nothing_kept, kept_with, writes_found_rows, CanBeKept, IsNextOutcome, StandsFor};
+ghost use Rattle.odb_txn.specs.Transaction.{Kept, IsKept, nothing_kept, kept_with, own_keys, writes_found_rows, CanBeKept, IsNextOutcome, StandsFor};
 
 /// Reads that are kept judge a commit as all of them do: the first conflict and the oldest number
 /// are the same, whatever the history is. Each range is kept once.
@@ -29,6 +29,23 @@ pub fn judges_alike()
 pub fn tells_by_statement()
     ensures { (st : Statement) (s : State) (written : List TableKey) (format : ℕ)
         → Tells (λ _. writes_found_rows st) (meaning st s written format).writes s }
+{}
+
+/// A statement that runs over rows with a transaction's intentions laid over them means what it
+/// means over all that the transaction has written, since of the keys written it asks the count
+/// alone. In a database of format 1 what it writes there can always be kept.
+pub fn means_as_it_writes()
+    ensures means { (kept : Kept) (h : List Entry) (t : List Executed) (st : Statement) (format : ℕ)
+        → StandsFor kept h t format
+        → meaning st (laid_over (replay h) kept.own) (own_keys kept) format
+        ≡ meaning_over st (replay h) (write_set_of h t format) format }
+    ensures laid { (kept : Kept) (h : List Entry) (t : List Executed) (format : ℕ)
+        → StandsFor kept h t format
+        → laid_over (replay h) kept.own ≡ after_writes (replay h) (write_set_of h t format) }
+    ensures keeps { (kept : Kept) (st : Statement) (s : State) (outcome : Outcome)
+        → IsKept kept → HasKeys (laid_over s kept.own)
+        → outcome.writes ≡ (meaning st (laid_over s kept.own) (own_keys kept) 1).writes
+        → CanBeKept kept st outcome }
 {}
 
 /// What is kept stands for the open transaction whose statements were added, and it still does when

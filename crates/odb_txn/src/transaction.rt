@@ -4,7 +4,7 @@ ghost use Rattle.odb_model.specs.Intentions.{intended};
 ghost use Rattle.odb_model.specs.Script.{IsSession};
 ghost use Rattle.odb_model.specs.Storable.{IsStorableList};
 ghost use Rattle.odb_txn.specs.ReadSet.{oldest_number};
-ghost use Rattle.odb_txn.specs.Transaction.{nothing_kept, kept_with, CanBeKept, writes_found_rows};
+ghost use Rattle.odb_txn.specs.Transaction.{IsKept, nothing_kept, kept_with, CanBeKept, writes_found_rows};
 
 use crate::{ReadSet, TxnError};
 use odb_model::{Outcome, Statement, Writes};
@@ -103,7 +103,8 @@ impl Transaction {
     /// What it intends for each row that it wrote: what lies over the committed rows for its own
     /// statements.
     pub fn own(&self) -> &Intentions
-        ensures { result.now.items ≡ self.now.own }
+        ensures value { result.now.items ≡ self.now.own }
+        ensures always { IsKept self.now }
     {
         &self.own
     }

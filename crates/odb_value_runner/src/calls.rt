@@ -2,7 +2,7 @@
 //! here, and would be among what is known in each function behind a call of theirs.
 use crate::scene::FORMAT;
 use odb_model::{Entry, Event, Head, Outcome, Reply, Statement, Write};
-use odb_plain::{execute, is_built};
+use odb_plain::execute;
 use odb_play::{LineRefusal, event_of};
 use odb_reply::print_reply;
 use odb_row_values::LineError;
@@ -29,8 +29,5 @@ pub fn outcome(
     history: &[Entry],
     write_set: &[Write],
 ) -> Result<Outcome, LineError> {
-    if !is_built(statement) {
-        return Err(LineError::Unreadable("the statement isn't built"));
-    }
     Ok(execute(alloc, statement, history, write_set, FORMAT)?)
 }

@@ -1,15 +1,11 @@
 //! Lines on what statements do on a history: the definitions, computed plainly.
-ghost use Rattle.std.specs.Prelude.{All, IsTrue};
-ghost use Rattle.std.specs.Bool.{OnTrue};
-ghost use Rattle.odb_model.specs.Meaning.{is_built};
-
 use crate::calls::outcome;
 use crate::history::is_history;
 use crate::images::tell_writes;
 use crate::lines::put_reply;
 use crate::scene::{FORMAT, Scene, statement_of};
 use odb_model::{Entry, Head, Outcome, Read, Reply, Statement, TableKey, Write};
-use odb_plain::{Rows, SerialRun, alone, first_conflict, is_built, net_writes, rows_in};
+use odb_plain::{Rows, SerialRun, alone, first_conflict, net_writes, rows_in};
 use odb_row_values::{
     LineError, answer, key_of, number_in, part, put, range_in, tell_tuple, tell_value,
 };
@@ -61,12 +57,6 @@ fn outcome_of(alloc: Global, scene: &Scene, given: &str) -> Result<Outcome, Line
     )
 }
 
-/// `built STATEMENT`: whether the form of a statement is built.
-pub fn built(alloc: Global, out: &mut String, given: &str) -> Result<(), LineError> {
-    let statement = statement_of(alloc, given)?;
-    put(out, answer(is_built(&statement)))
-}
-
 /// `conflict`: the number of the first entry that overwrote what was read.
 pub fn conflict(out: &mut String, scene: &Scene) -> Result<(), LineError> {
     match conflict_in(scene.history.as_slice(), scene.reads.as_slice())? {
@@ -96,9 +86,6 @@ fn run_alone(
     statements: &[Statement],
     history: &[Entry],
 ) -> Result<SerialRun, LineError> {
-    if !are_built(statements) {
-        return Err(LineError::Unreadable("a statement isn't built"));
-    }
     Ok(alone(alloc, statements, history, FORMAT)?)
 }
 
@@ -107,12 +94,6 @@ fn tell_replies(alloc: Global, out: &mut String, replies: &[Reply]) -> Result<()
         tell_reply(alloc, out, reply)?;
     }
     Ok(())
-}
-
-fn are_built(statements: &[Statement]) -> bool
-    ensures { OnTrue result (All (λ statement. IsTrue (is_built statement)) statements.now) }
-{
-    statements.iter().all(|statement| is_built(statement))
 }
 
 /// `net`: what the transaction's own writes leave on the history.

@@ -165,7 +165,6 @@ fn find_in_scene(
     given: &str,
 ) -> Result<(), LineError> {
     match kind {
-        "built" => plain::built(alloc, out, given),
         "execute" => plain::executed(alloc, out, scene, given),
         "reads" => plain::reads(alloc, out, scene, given),
         "conflict" => plain::conflict(out, scene),

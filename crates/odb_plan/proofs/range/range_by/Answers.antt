@@ -1,4 +1,4 @@
-use Rattle.std.proofs.Common.{reverse, ◌∙◌}
+use Rattle.std.proofs.Common.{reverse}
 use Rattle.odb_plan.proofs.Parts.{range_is}
 use Rattle.odb_plan.proofs.range.range_by.Goals as goal
 

@@ -1,7 +1,7 @@
-use Rattle.std.proofs.Common.{◌≡◌, List, reverse, ap, ◌∙◌}
+use Rattle.std.proofs.Common.{◌≡◌, reverse, ap, ◌∙◌}
 use Rattle.std.proofs.lemmas.Result.{IfOk-weaker}
 use Rattle.odb_values.specs.declared.range.Range.{Range}
-use Rattle.odb_model.specs.Where.{ColumnTest, range_by, range_of, tests_of}
+use Rattle.odb_model.specs.Where.{range_by, range_of, tests_of}
 use Rattle.odb_plan.proofs.Lists.{twice}
 use Rattle.odb_plan.proofs.range.range_of.Goals as goal
 

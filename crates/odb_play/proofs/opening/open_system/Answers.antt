@@ -14,7 +14,7 @@ pub returns-in-Ok-start-clause-started : goal.returns-in-Ok-start-clause-started
 returns-in-Ok-start-clause-started g c =
     let found = c.in-Ok.ensures in
     let begun = c.in-Ok-start.ensures in
-    started_with c.in-Ok-start.system c.in-Ok.opened.transdb c.in-Ok.opened.entries (g.H.Outside.world c.args.host.now) (g.H.Outside.world c.open_with_entries.new.store) c.open_with_entries.ensures.run found.answer found.entries found.opened.stands
+    started_with c.in-Ok-start.system c.in-Ok.opened.transdb c.in-Ok.opened.entries (g.H.Outside.world c.args.host.now) (g.H.Outside.world c.open_with_entries.new.store) c.open_with_entries.ensures.leaves.run found.answer found.leaves.entries found.opened.stands
     (sym c.first-first.ensures ∙ c.if-first-ne1.false) begun.stands begun.history.0 begun.history.1
 
 pub returns-in-Err-clause-refused : goal.returns-in-Err-clause-refused
@@ -22,11 +22,11 @@ returns-in-Err-clause-refused g c =
     let old = g.H.Outside.world c.args.host.now in
     let new = g.H.Outside.world c.open_with_entries.new.store in
     subst (λ (status : Status). IsRefused status old new) (sym c.status_of.ensures)
-    (refused_with c.in-Err.error old new c.open_with_entries.ensures.run c.open_with_entries.ensures.bytes
-    (λ other. c.open_with_entries.ensures.closed (λ same. other (cc (c.in-Err.is, same))))
-    (λ none. c.open_with_entries.ensures.nothing (c.in-Err.is ∙ ap Err none)))
+    (refused_with c.in-Err.error old new c.open_with_entries.ensures.leaves.run c.open_with_entries.ensures.leaves.gates
+    (λ other. c.open_with_entries.ensures.leaves.closed (λ same. other (cc (c.in-Err.is, same))))
+    (λ none. c.open_with_entries.ensures.leaves.nothing (c.in-Err.is ∙ ap Err none)))
 
 pub returns-then-first-ne1-clause-refused : goal.returns-then-first-ne1-clause-refused
 returns-then-first-ne1-clause-refused g c =
-    refused_behind (NotHeld 2 0 c.first-first.result) (g.H.Outside.world c.args.host.now) (g.H.Outside.world c.open_with_entries.new.store) c.open_with_entries.ensures.run
-    c.open_with_entries.ensures.bytes (c.open_with_entries.ensures.closed (λ same. absurd (cc (c.in-Ok.is, same)))) (λ same. absurd (cc same))
+    refused_behind (NotHeld 2 0 c.first-first.result) (g.H.Outside.world c.args.host.now) (g.H.Outside.world c.open_with_entries.new.store) c.open_with_entries.ensures.leaves.run
+    c.open_with_entries.ensures.leaves.gates (c.open_with_entries.ensures.leaves.closed (λ same. absurd (cc (c.in-Ok.is, same)))) (λ same. absurd (cc same))

@@ -5,7 +5,7 @@ use Rattle.odb_play.proofs.script.play.Goals as goal
 
 pub returns-in-Ok-clause-played : goal.returns-in-Ok-clause-played
 returns-in-Ok-clause-played g c =
-    let held = c.in-Ok.player.system in
+    let held = c.in-Ok.ready.player.system in
     let played = c.play_on.ensures.played (first_machine held.transdb.header.format (sides_of held.transdb.header) held.history) c.in-Ok.ensures.started.stands (rests_started held (g.H.Outside.world c.args.host.now) (g.H.Outside.world c.open_player.new.host) c.in-Ok.ensures.started) c.in-Ok.ensures.front in
     outcome_played c.play_on.result (g.H.Outside.world c.args.host.now) (g.H.Outside.world c.play_on.new.host)
     (played_from held c.play_on.result (g.H.Outside.world c.args.host.now) (g.H.Outside.world c.open_player.new.host) (g.H.Outside.world c.play_on.new.host)
@@ -13,14 +13,14 @@ returns-in-Ok-clause-played g c =
 
 pub returns-in-Ok-clause-opened : goal.returns-in-Ok-clause-opened
 returns-in-Ok-clause-opened g c =
-    let held = c.in-Ok.player.system in
+    let held = c.in-Ok.ready.player.system in
     let played = c.play_on.ensures.played (first_machine held.transdb.header.format (sides_of held.transdb.header) held.history) c.in-Ok.ensures.started.stands (rests_started held (g.H.Outside.world c.args.host.now) (g.H.Outside.world c.open_player.new.host) c.in-Ok.ensures.started) c.in-Ok.ensures.front in
     opening_played held (first_machine held.transdb.header.format (sides_of held.transdb.header) held.history) c.play_on.result
     (g.H.Outside.world c.args.host.now) (g.H.Outside.world c.open_player.new.host) (g.H.Outside.world c.play_on.new.host) c.in-Ok.ensures.started played.played
 
 pub returns-in-Ok-clause-file_fault : goal.returns-in-Ok-clause-file_fault
 returns-in-Ok-clause-file_fault g c = λ file same.
-    let held = c.in-Ok.player.system in
+    let held = c.in-Ok.ready.player.system in
     let played = c.play_on.ensures.played (first_machine held.transdb.header.format (sides_of held.transdb.header) held.history) c.in-Ok.ensures.started.stands (rests_started held (g.H.Outside.world c.args.host.now) (g.H.Outside.world c.open_player.new.host) c.in-Ok.ensures.started) c.in-Ok.ensures.front in
     absurd (no_file_fault (first_machine held.transdb.header.format (sides_of held.transdb.header) held.history) c.play_on.result file (g.H.Outside.world c.open_player.new.host) (g.H.Outside.world c.play_on.new.host) played.played same)
 

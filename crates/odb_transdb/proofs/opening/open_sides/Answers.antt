@@ -3,19 +3,20 @@ use Rattle.std.specs.Prelude.{IfSome}
 use Rattle.std.proofs.lemmas.Result.{err_from_is_err_and}
 use Rattle.odb_device.specs.World.{File, file_of}
 use Rattle.odb_device.proofs.Time.{run_end}
-use Rattle.odb_values.specs.Listed.{Listed}
 use Rattle.odb_reclog.specs.Standing.{Log}
 use Rattle.odb_model.specs.declared.entry.Entry.{Entry}
 use Rattle.odb_model.specs.State.{IsNumberedFrom}
 use Rattle.odb_model.specs.Width.{records_width}
 use Rattle.odb_transdb.specs.declared.error.TransdbError.{TransdbError}
+use Rattle.odb_transdb.specs.declared.opening.LiveSide.{LiveSide}
 use Rattle.odb_transdb.specs.declared.opening.OpenedTransdb.{OpenedTransdb}
 use Rattle.odb_transdb.specs.declared.error.TransdbError.TheVariants.{Fault}
 use Rattle.odb_transdb.specs.Header.{side_start, side_end, first_on, active_first, first_held}
 use Rattle.odb_transdb.specs.Opened.{Opened, holding, opened}
 use Rattle.odb_transdb.specs.Answers.{IsFullAnswer, ClosesGates}
 use Rattle.odb_transdb.specs.Opening.{EndsRight, KeepsSide}
-use Rattle.odb_transdb.proofs.Opens.{gates_then}
+use Rattle.odb_transdb.proofs.Opens.{gates_none, gates_then}
+use Rattle.odb_transdb.proofs.Leaving.{reads_opens, never_none, refused_left, done_left}
 use Rattle.odb_transdb.specs.Worlds.{OnlyClosesGates}
 use Rattle.odb_transdb.proofs.Opened.{HasHeader}
 use Rattle.odb_transdb.proofs.Gates.{gates_read, gates_live, active_same, gates_active}
@@ -38,7 +39,7 @@ begun g c of =
     let w1 = g.S.Outside.world c.check_sides.new.store in
     let reads = g.met.S.Store.reads_image c.args.store.now 0 in
     let first = begun_first c.args.pair c.args.header of w w1 reads c.requires.found.kept c.requires.found.stands c.requires.found.found c.in_ok-check_sides.ensures.told c.check_sides.ensures.run in
-    begun_live c.args.pair c.args.header of w w1 (g.S.Outside.world c.open_live.new.store) reads first c.open_live.ensures.live c.open_live.ensures.quiet
+    begun_live c.args.pair c.args.header of w w1 (g.S.Outside.world c.open_live.new.store) reads first c.open_live.ensures.leaves.live c.open_live.ensures.leaves.quiet
 
 -- a refusal that `?` hands on
 abbrev Holding : OpenedTransdb → Opened → Type 0
@@ -58,41 +59,24 @@ returns-in_err-check_sides-clause-answer g c =
     handed (Answers o) c.from_residual.result e (p.1 ∙ ap Err p.2)
     (refused_check Holding c.args.pair c.args.header o e (of g (goal.at.returns-in_err-check_sides-clause-answer g c).After-check_sides) c.requires.found.found c.in_err-check_sides.ensures.told)
 
-pub returns-in_err-live-clause-answer : goal.returns-in_err-live-clause-answer
-returns-in_err-live-clause-answer g c =
+pub returns-in_err-other-clause-answer : goal.returns-in_err-other-clause-answer
+returns-in_err-other-clause-answer g c =
     let w = g.S.Outside.world c.args.store.now in
     let w1 = g.S.Outside.world c.check_sides.new.store in
     let o = file_of 0 w in
-    let e = c.in_err-live.field-0.0 in
-    let p = err_from_is_err_and c.from_residual-in_err-live.result c.from_residual-in_err-live.ensures.1 in
-    let is = of g (goal.at.returns-in_err-live-clause-answer g c).After-check_sides in
+    let e = c.in_err-other.field-0.0 in
+    let p = err_from_is_err_and c.from_residual-in_err-other.result c.from_residual-in_err-other.ensures.1 in
+    let is = of g (goal.at.returns-in_err-other-clause-answer g c).After-check_sides in
     let based = based_first c.args.pair c.args.header is o c.requires.found.kept c.requires.found.stands c.requires.found.found c.in_ok-check_sides.ensures.told in
-    handed (Answers o) c.from_residual-in_err-live.result e (p.1 ∙ ap Err p.2)
-    (refused_live (λ f (found : Option Log × Listed Entry) (what : Opened). EndsRight c.args.header f.bytes) Holding c.args.pair c.args.header o (file_of 0 w1) e (run_end 0 (λ f. f ≡ o) w w1 c.check_sides.ensures.run)
-    (g.met.S.Store.reads_image c.args.store.now 0) based c.in_err-live.ensures.told)
-
-pub returns-in_err-live-clause-run : goal.returns-in_err-live-clause-run
-returns-in_err-live-clause-run g c =
-    let at = goal.at.returns-in_err-live-clause-run g c in
-    (begun g at.After-open_live (of g at.After-check_sides)).run
+    handed (Answers o) c.from_residual-in_err-other.result e (p.1 ∙ ap Err p.2)
+    (refused_live (λ f (found : LiveSide) (what : Opened). EndsRight c.args.header f.bytes) Holding c.args.pair c.args.header o (file_of 0 w1) e (run_end 0 (λ f. f ≡ o) w w1 c.check_sides.ensures.run)
+    (g.met.S.Store.reads_image c.args.store.now 0) based c.in_err-other.ensures.told)
 
 -- after the active side was read
 further : (g : Over) (c : After-open_active g) (of : IsOfPair c.args.pair c.args.header) → IsBegun c.args.pair c.args.header of (g.S.Outside.world c.args.store.now) (g.S.Outside.world c.open_live.new.store)
     → IsBegun c.args.pair c.args.header of (g.S.Outside.world c.args.store.now) (g.S.Outside.world c.open_active.new.store)
 further g c of so_far =
-    begun_active c.args.pair c.args.header of (g.S.Outside.world c.args.store.now) (g.S.Outside.world c.open_live.new.store) (g.S.Outside.world c.open_active.new.store) (g.met.S.Store.reads_image c.args.store.now 0) so_far c.open_active.ensures.run
-
-pub returns-in_err-active-clause-run : goal.returns-in_err-active-clause-run
-returns-in_err-active-clause-run g c =
-    let at = goal.at.returns-in_err-active-clause-run g c in
-    let is = of g at.After-check_sides in
-    (further g at.After-open_active is (begun g at.After-open_live is)).run
-
-pub returns-clause-run : goal.returns-clause-run
-returns-clause-run g c =
-    let at = goal.at.returns-clause-run g c in
-    let is = of g at.After-check_sides in
-    (further g at.After-open_active is (begun g at.After-open_live is)).run
+    begun_active c.args.pair c.args.header of (g.S.Outside.world c.args.store.now) (g.S.Outside.world c.open_live.new.store) (g.S.Outside.world c.open_active.new.store) (g.met.S.Store.reads_image c.args.store.now 0) so_far c.open_active.ensures.leaves.run
 
 -- a log that begins where the active side's does
 abbrev some_log : ℕ → Log
@@ -111,7 +95,7 @@ some_log first = record {
 
 -- the entries of the other side stand as they were read
 front : (g : Over) (c : After-open_active g) (of : IsOfPair c.args.pair c.args.header) → IsBegun c.args.pair c.args.header of (g.S.Outside.world c.args.store.now) (g.S.Outside.world c.open_active.new.store)
-    → HasFront c.args.pair c.args.header c.in_ok-live.entries.items (file_of 0 (g.S.Outside.world c.args.store.now)) (file_of 0 (g.S.Outside.world c.open_active.new.store))
+    → HasFront c.args.pair c.args.header c.in_ok-other.other.entries.items (file_of 0 (g.S.Outside.world c.args.store.now)) (file_of 0 (g.S.Outside.world c.open_active.new.store))
 front g c of so_far =
     let h = c.args.header in
     let w2 = g.S.Outside.world c.open_live.new.store in
@@ -119,16 +103,16 @@ front g c of so_far =
     let active = some_log (active_first h) in
     let at = side_start h h.active in
     let n = side_end h h.active - side_start h h.active in
-    let keeps = run_end 0 (KeepsSide h h.active (file_of 0 w2)) w2 w3 c.open_active.ensures.run in
+    let keeps = run_end 0 (KeepsSide h h.active (file_of 0 w2)) w2 w3 c.open_active.ensures.leaves.run in
     let torn = keeps_torn (side_start h h.active) (side_end h h.active) (first_on h h.active) at n (file_of 0 w2) (file_of 0 w3) keeps in
     let reads = g.met.S.Store.reads_image c.open_active.new.store 0 in
     record {
       based = so_far.based;
       told = so_far.run.only.told w3.time so_far.run.only.later (omega arith);
       reads = reads;
-      read = live_still h c.in_ok-live.live active at n c.in_ok-live.entries.items (file_of 0 w2) (file_of 0 w3) (low_side c.args.pair h of) (whole_side c.args.pair h of h.active)
-          (c.in_ok-live.ensures.log active refl) c.in_ok-live.ensures.stands torn reads c.in_ok-live.ensures.read;
-      count = c.in_ok-live.ensures.numbers.1;
+      read = live_still h c.in_ok-other.other.log active at n c.in_ok-other.other.entries.items (file_of 0 w2) (file_of 0 w3) (low_side c.args.pair h of) (whole_side c.args.pair h of h.active)
+          (c.in_ok-other.ensures.opened.log active refl) c.in_ok-other.ensures.opened.stands torn reads c.in_ok-other.ensures.opened.read;
+      count = c.in_ok-other.ensures.opened.numbers.1;
     }
 
 pub returns-in_err-active-clause-answer : goal.returns-in_err-active-clause-answer
@@ -140,7 +124,7 @@ returns-in_err-active-clause-answer g c =
     let e = c.in_err-active.field-0.0 in
     let p = err_from_is_err_and c.from_residual-in_err-active.result c.from_residual-in_err-active.ensures.1 in
     handed (Answers o) c.from_residual-in_err-active.result e (p.1 ∙ ap Err p.2)
-    (refused_rest c.args.pair c.args.header c.in_ok-live.entries.items {T = Log} (λ all _. c.open_active.new.entries.items ≡ c.in_ok-live.entries.items ++ all) Holding o
+    (refused_rest c.args.pair c.args.header c.in_ok-other.other.entries.items {T = Log} (λ all _. c.open_active.new.entries.items ≡ c.in_ok-other.other.entries.items ++ all) Holding o
     (file_of 0 (g.S.Outside.world c.open_active.new.store)) e (front g at.After-open_active is so_far) c.in_err-active.ensures.told)
 
 -- the bytes keep the header that the pair was found to keep
@@ -157,15 +141,7 @@ first_gates g c of =
     let w1 = g.S.Outside.world c.check_sides.new.store in
     let look = c.check_sides.ensures.run in
     gates_live c.args.header (low_side c.args.pair c.args.header of) w w1 (g.S.Outside.world c.open_live.new.store) (has_header g c of) (run_end 0 (λ f. f ≡ file_of 0 w) w w1 look) look
-    c.open_live.ensures.gate c.open_live.ensures.quiet
-
-pub returns-in_err-check_sides-clause-bytes : goal.returns-in_err-check_sides-clause-bytes
-returns-in_err-check_sides-clause-bytes g c = gates_read (g.S.Outside.world c.args.store.now) (g.S.Outside.world c.check_sides.new.store) c.check_sides.ensures.run
-
-pub returns-in_err-live-clause-bytes : goal.returns-in_err-live-clause-bytes
-returns-in_err-live-clause-bytes g c =
-    let at = goal.at.returns-in_err-live-clause-bytes g c in
-    first_gates g at.After-open_live (of g at.After-check_sides)
+    c.open_live.ensures.leaves.gate c.open_live.ensures.leaves.quiet
 
 -- whatever the active side's log answered
 both_gates : (g : Over) (c : After-open_active g) (of : IsOfPair c.args.pair c.args.header) → IsBegun c.args.pair c.args.header of (g.S.Outside.world c.args.store.now) (g.S.Outside.world c.open_live.new.store)
@@ -178,20 +154,8 @@ both_gates g c of so_far has gates =
     let w2 = g.S.Outside.world c.open_live.new.store in
     let low = low_side c.args.pair h of in
     let look = c.check_sides.ensures.run in
-    let same = active_same h low w w1 w2 has (run_end 0 (λ f. f ≡ file_of 0 w) w w1 look) look c.requires.found.kept (g.met.S.Store.reads_image c.open_live.new.store 0) c.open_live.ensures.live c.open_live.ensures.quiet in
-    gates_active h low w w2 (g.S.Outside.world c.open_active.new.store) has (so_far.run.only.told w2.time so_far.run.only.later (omega arith)) same gates c.open_active.ensures.gate
-
-pub returns-in_err-active-clause-bytes : goal.returns-in_err-active-clause-bytes
-returns-in_err-active-clause-bytes g c =
-    let at = goal.at.returns-in_err-active-clause-bytes g c in
-    let is = of g at.After-check_sides in
-    both_gates g at.After-open_active is (begun g at.After-open_live is) (has_header g at.After-open_live is) (first_gates g at.After-open_live is)
-
-pub returns-clause-bytes : goal.returns-clause-bytes
-returns-clause-bytes g c =
-    let at = goal.at.returns-clause-bytes g c in
-    let is = of g at.After-check_sides in
-    both_gates g at.After-open_active is (begun g at.After-open_live is) (has_header g at.After-open_live is) (first_gates g at.After-open_live is)
+    let same = active_same h low w w1 w2 has (run_end 0 (λ f. f ≡ file_of 0 w) w w1 look) look c.requires.found.kept (g.met.S.Store.reads_image c.open_live.new.store 0) c.open_live.ensures.leaves.live c.open_live.ensures.leaves.quiet in
+    gates_active h low w w2 (g.S.Outside.world c.open_active.new.store) has (so_far.run.only.told w2.time so_far.run.only.later (omega arith)) same gates c.open_active.ensures.leaves.gate
 
 -- the bytes, where the active side's log had no fault
 bytes : (g : Over) (c : After-open_active g) (of : IsOfPair c.args.pair c.args.header) → IsBegun c.args.pair c.args.header of (g.S.Outside.world c.args.store.now) (g.S.Outside.world c.open_live.new.store)
@@ -203,44 +167,62 @@ bytes g c of so_far whole =
     let w3 = g.S.Outside.world c.open_active.new.store in
     let first : ClosesGates (file_of 0 w) (file_of 0 w2) =
     subst (λ (o : Option File). ClosesGates o (file_of 0 w2)) (run_end 0 (λ f. f ≡ file_of 0 w) w w1 c.check_sides.ensures.run)
-    (c.in_ok-live.ensures.closed (λ (e : Ok (c.in_ok-live.live, c.in_ok-live.entries) ≡ Err Fault). absurd (cc e))) in
+    (c.in_ok-other.ensures.leaves.closed (λ (e : Ok c.in_ok-other.other ≡ Err Fault). absurd (cc e))) in
     let told = so_far.run.only.told w2.time so_far.run.only.later (omega arith) in
-    gates_then (file_of 0 w) (file_of 0 w2) (file_of 0 w3) told first (c.open_active.ensures.closed whole)
+    gates_then (file_of 0 w) (file_of 0 w2) (file_of 0 w3) told first (c.open_active.ensures.leaves.closed whole)
 
-pub returns-in_err-active-clause-closed : goal.returns-in_err-active-clause-closed
-returns-in_err-active-clause-closed g c = λ other.
-    let at = goal.at.returns-in_err-active-clause-closed g c in
+pub returns-in_err-check_sides-clause-leaves : goal.returns-in_err-check_sides-clause-leaves
+returns-in_err-check_sides-clause-leaves g c =
+    let w = g.S.Outside.world c.args.store.now in
+    let w1 = g.S.Outside.world c.check_sides.new.store in
+    let look = c.check_sides.ensures.run in
+    let p = err_from_is_err_and c.from_residual.result c.from_residual.ensures.1 in
+    refused_left c.from_residual.result c.in_err-check_sides.field-0.0 w w1 (p.1 ∙ ap Err p.2) (reads_opens w w1 look) (gates_read w w1 look)
+    (λ other. gates_none (file_of 0 w) (file_of 0 w1) (run_end 0 (λ f. f ≡ file_of 0 w) w w1 look)) (λ none. absurd (never_none (Unit {0}) c.in_err-check_sides.field-0.0 c.in_err-check_sides.ensures.fails.0 none))
+
+pub returns-in_err-other-clause-leaves : goal.returns-in_err-other-clause-leaves
+returns-in_err-other-clause-leaves g c =
+    let at = goal.at.returns-in_err-other-clause-leaves g c in
     let is = of g at.After-check_sides in
+    let w = g.S.Outside.world c.args.store.now in
+    let w1 = g.S.Outside.world c.check_sides.new.store in
+    let w2 = g.S.Outside.world c.open_live.new.store in
+    let e = c.in_err-other.field-0.0 in
+    let p = err_from_is_err_and c.from_residual-in_err-other.result c.from_residual-in_err-other.ensures.1 in
+    refused_left c.from_residual-in_err-other.result e w w2 (p.1 ∙ ap Err p.2) (begun g at.After-open_live is).run (first_gates g at.After-open_live is)
+    (λ other.
+    subst (λ (o : Option File). ClosesGates o (file_of 0 w2)) (run_end 0 (λ f. f ≡ file_of 0 w) w w1 c.check_sides.ensures.run)
+    (c.open_live.ensures.leaves.closed (λ same. other (cc (c.in_err-other.was, same))))) (λ none. absurd (never_none LiveSide e c.in_err-other.ensures.fails.0 none))
+
+pub returns-in_err-active-clause-leaves : goal.returns-in_err-active-clause-leaves
+returns-in_err-active-clause-leaves g c =
+    let at = goal.at.returns-in_err-active-clause-leaves g c in
+    let is = of g at.After-check_sides in
+    let so_far = begun g at.After-open_live is in
+    let e = c.in_err-active.field-0.0 in
     let p = err_from_is_err_and c.from_residual-in_err-active.result c.from_residual-in_err-active.ensures.1 in
-    bytes g at.After-open_active is (begun g at.After-open_live is)
-    (λ (same : c.open_active.result ≡ Err Fault).
-    let fault : c.in_err-active.field-0.0 ≡ Fault = cc (c.in_err-active.was, same) in
-    other (p.1 ∙ ap Err (p.2 ∙ fault)))
-
-pub returns-clause-closed : goal.returns-clause-closed
-returns-clause-closed g c = λ _.
-    let at = goal.at.returns-clause-closed g c in
-    let is = of g at.After-check_sides in
-    bytes g at.After-open_active is (begun g at.After-open_live is) (λ (same : c.open_active.result ≡ Err Fault). absurd (cc (c.in_ok-active.was, same)))
+    refused_left c.from_residual-in_err-active.result e (g.S.Outside.world c.args.store.now) (g.S.Outside.world c.open_active.new.store) (p.1 ∙ ap Err p.2) (further g at.After-open_active is so_far).run
+    (both_gates g at.After-open_active is so_far (has_header g at.After-open_live is) (first_gates g at.After-open_live is))
+    (λ other. bytes g at.After-open_active is so_far (λ (same : c.open_active.result ≡ Err Fault). other (cc (c.in_err-active.was, same)))) (λ none. absurd (never_none Log e c.in_err-active.ensures.fails.0 none))
 
 -- both logs are open
 are : (g : Over) (c : In_ok-active g) (of : IsOfPair c.args.pair c.args.header) → IsBegun c.args.pair c.args.header of (g.S.Outside.world c.args.store.now) (g.S.Outside.world c.open_active.new.store)
-    → AreOpen c.args.pair c.args.header c.in_ok-live.live c.in_ok-active.active (file_of 0 (g.S.Outside.world c.args.store.now)) (file_of 0 (g.S.Outside.world c.open_active.new.store))
+    → AreOpen c.args.pair c.args.header c.in_ok-other.other.log c.in_ok-active.active (file_of 0 (g.S.Outside.world c.args.store.now)) (file_of 0 (g.S.Outside.world c.open_active.new.store))
 are g c of so_far =
     let h = c.args.header in
     let w2 = g.S.Outside.world c.open_live.new.store in
     let w3 = g.S.Outside.world c.open_active.new.store in
     let active = c.in_ok-active.active in
     let reads = g.met.S.Store.reads_image c.open_active.new.store 0 in
-    let by = c.in_ok-live.ensures.log active c.in_ok-active.ensures.side.first in
+    let by = c.in_ok-other.ensures.opened.log active c.in_ok-active.ensures.opened.of_side.first in
     record {
       based = so_far.based;
       told = so_far.run.only.told w3.time so_far.run.only.later (omega arith);
       reads = reads;
-      side = c.in_ok-active.ensures.side;
-      stands = c.in_ok-active.ensures.stands;
+      side = c.in_ok-active.ensures.opened.of_side;
+      stands = c.in_ok-active.ensures.opened.stands;
       by = by;
-      lives = lives_on h c.in_ok-live.live active w2 w3 (low_side c.args.pair h of) (whole_side c.args.pair h of h.active) by c.in_ok-live.ensures.stands c.open_active.ensures.run reads;
+      lives = lives_on h c.in_ok-other.other.log active w2 w3 (low_side c.args.pair h of) (whole_side c.args.pair h of h.active) by c.in_ok-other.ensures.opened.stands c.open_active.ensures.leaves.run reads;
     }
 
 pub returns-clause-answer : goal.returns-clause-answer
@@ -252,15 +234,7 @@ returns-clause-answer g c =
     let o = file_of 0 (g.S.Outside.world c.args.store.now) in
     let now = file_of 0 (g.S.Outside.world c.open_active.new.store) in
     subst (λ (l : List Entry). IfSome o (λ f. opened f.bytes ≡ holding h l)) (sym c.new.ensures)
-    (found_all c.args.pair h c.in_ok-live.entries.items c.open_active.new.entries.items o now (front g at.After-open_active is so_far) c.in_ok-active.ensures.told)
-
-pub returns-clause-entries : goal.returns-clause-entries
-returns-clause-entries g c =
-    let at = goal.at.returns-clause-entries g c in
-    let is = of g at.After-check_sides in
-    let so_far = further g at.After-open_active is (begun g at.After-open_live is) in
-    entries_sides c.args.pair c.args.header c.in_ok-live.live c.in_ok-active.active (file_of 0 (g.S.Outside.world c.args.store.now)) (file_of 0 (g.S.Outside.world c.open_active.new.store))
-    (are g at.In_ok-active is so_far)
+    (found_all c.args.pair h c.in_ok-other.other.entries.items c.open_active.new.entries.items o now (front g at.After-open_active is so_far) c.in_ok-active.ensures.told)
 
 pub returns-clause-opened : goal.returns-clause-opened
 returns-clause-opened g c =
@@ -270,21 +244,32 @@ returns-clause-opened g c =
     let h = c.args.header in
     let o = file_of 0 (g.S.Outside.world c.args.store.now) in
     let now = file_of 0 (g.S.Outside.world c.open_active.new.store) in
-    let items = c.in_ok-live.entries.items in
+    let items = c.in_ok-other.other.entries.items in
     let all = c.open_active.new.entries.items in
     let active = c.in_ok-active.active in
     let first = active_first h in
     let held = first_held h in
-    let numbers = c.in_ok-live.ensures.numbers in
-    let part = c.in_ok-active.ensures.part in
-    let least = c.in_ok-active.ensures.least in
+    let numbers = c.in_ok-other.ensures.opened.numbers in
+    let part = c.in_ok-active.ensures.opened.part in
+    let active_is = c.in_ok-active.ensures.opened in
     record {
-      stands = stands_sides c.args.pair h c.in_ok-live.live active o now (are g at.In_ok-active is so_far)
+      stands = stands_sides c.args.pair h c.in_ok-other.other.log active o now (are g at.In_ok-active is so_far)
           (read_all c.args.pair h items all o now (front g at.After-open_active is so_far) c.in_ok-active.ensures.told);
-      usable = c.in_ok-active.ensures.usable;
+      usable = c.in_ok-active.ensures.opened.usable;
       numbers = subst (λ (l : List Entry). IsNumberedFrom held l × (held + length l ≡ active.next)) (sym c.new.ensures)
-          (all_numbered held first active.next (active.place - active.start) items all numbers.0 numbers.1 least.0 part);
+          (all_numbered held first active.next (active.place - active.start) items all numbers.0 numbers.1 active_is.number part);
       width = subst (λ (l : List Entry). records_width (drop (first - held) l) ≡ active.place - active.start) (sym c.new.ensures)
           (active_width held first active.next (active.place - active.start) items all numbers.1 part);
-      placed = record { side = c.in_ok-active.ensures.side; place = least.1; from = least.0; some = some_first h h.active (lawful_is h c.requires.found.lawful) };
+      placed = record { side = c.in_ok-active.ensures.opened.of_side; place = active_is.place; from = active_is.number; some = some_first h h.active (lawful_is h c.requires.found.lawful) };
     }
+
+pub returns-clause-leaves : goal.returns-clause-leaves
+returns-clause-leaves g c =
+    let at = goal.at.returns-clause-leaves g c in
+    let is = of g at.After-check_sides in
+    let so_far = begun g at.After-open_live is in
+    let w = g.S.Outside.world c.args.store.now in
+    let w3 = g.S.Outside.world c.open_active.new.store in
+    done_left _ w w3 (further g at.After-open_active is so_far).run (both_gates g at.After-open_active is so_far (has_header g at.After-open_live is) (first_gates g at.After-open_live is))
+    (bytes g at.After-open_active is so_far (λ (same : c.open_active.result ≡ Err Fault). absurd (cc (c.in_ok-active.was, same))))
+    (entries_sides c.args.pair c.args.header c.in_ok-other.other.log c.in_ok-active.active (file_of 0 w) (file_of 0 w3) (are g at.In_ok-active is (further g at.After-open_active is so_far)))

@@ -15,10 +15,10 @@ module _ (g : Over) (c : After-add_entries g) where
   w = g.S.Outside.world c.args.store.now
 
   is : LiveIs c.args.header.now c.args.header.now.other c.in-Some.log c.args.active.now
-  is = live_is c.args.header.now c.args.header.now.other c.args.live.now c.in-Some.log c.args.active.now c.in-Some.is c.requires.sides.other
+  is = live_is c.args.header.now c.args.header.now.other c.args.live.now c.in-Some.log c.args.active.now c.in-Some.is c.requires.readable.sides.other
 
   some : AreSome c.args.from (active_first c.args.header.now) c.add_entries.new.entries.items
-  some = live_adds c.args.header.now c.in-Some.log c.args.active.now c.args.from c.args.entries.now.items c.add_entries.new.entries.items is c.requires.sides.side c.requires.from c.requires.none c.add_entries.ensures.some
+  some = live_adds c.args.header.now c.in-Some.log c.args.active.now c.args.from c.args.entries.now.items c.add_entries.new.entries.items is c.requires.readable.sides.side c.requires.readable.from_held c.requires.none c.add_entries.ensures.some
 
 pub returns-in_err-add_entries-clause-some : goal.returns-in_err-add_entries-clause-some
 returns-in_err-add_entries-clause-some g c = some g (goal.at.returns-in_err-add_entries-clause-some g c).After-add_entries
@@ -31,8 +31,8 @@ returns-clause-told g c =
     let a = (goal.at.returns-clause-told g c).After-add_entries in
     let log = c.in-Some.log in
     let items = c.args.entries.now.items in
-    let stands : LogStands log (file_of 0 (w g a)) = subst (λ (l : Option Log). IfSome l (λ log. LogStands log (file_of 0 (w g a)))) c.in-Some.is c.requires.live in
-    live_told c.args.header.now log c.args.active.now (file_of 0 (w g a)) c.args.from items c.add_entries.new.entries.items (is g a) c.requires.sides.side stands
+    let stands : LogStands log (file_of 0 (w g a)) = subst (λ (l : Option Log). IfSome l (λ log. LogStands log (file_of 0 (w g a)))) c.in-Some.is c.requires.readable.live_stands in
+    live_told c.args.header.now log c.args.active.now (file_of 0 (w g a)) c.args.from items c.add_entries.new.entries.items (is g a) c.requires.readable.sides.side stands
     (g.met.S.Store.reads_image c.args.store.now 0) c.requires.none
     (subst (λ (k : ℕ). IfSome (file_of k (w g a)) (λ f. (all : List Entry) × (log_entries log f.bytes ≡ Ok all)
     × (c.add_entries.new.entries.items ≡ items ++ drop (c.args.from - log.first) all))) (is g a).side.file c.in_ok-add_entries.ensures.told)

@@ -19,7 +19,7 @@ module _ (g : Over) (c : After-add_entries g) where
   mid = g.S.Outside.world c.add_live.new.store
 
   run : OnlyReads 0 w (g.S.Outside.world c.add_entries.new.store)
-  run = reads_then c.args.active.now.file w mid (g.S.Outside.world c.add_entries.new.store) c.requires.sides.side.file c.add_live.ensures.run c.add_entries.ensures.run
+  run = reads_then c.args.active.now.file w mid (g.S.Outside.world c.add_entries.new.store) c.requires.readable.sides.side.file c.add_live.ensures.run c.add_entries.ensures.run
 
 pub returns-in_err-add_entries-clause-run : goal.returns-in_err-add_entries-clause-run
 returns-in_err-add_entries-clause-run g c = run g (goal.at.returns-in_err-add_entries-clause-run g c).After-add_entries
@@ -37,32 +37,32 @@ returns-clause-told g c =
     let same = run_end 0 (λ f. f ≡ file_of 0 (w g a)) (w g a) (mid g a) c.add_live.ensures.run in
     let rest =
     subst (λ (k : ℕ). IfSome (file_of k (mid g a)) (λ f. (all : List Entry) × (log_entries active f.bytes ≡ Ok all) × (new ≡ old ++ drop (c.args.from - active.first) all)))
-    c.requires.sides.side.file c.in_ok-add_entries.ensures.told in
-    both_told h active (file_of 0 (w g a)) c.args.from old new new c.requires.sides.side refl c.in_ok-add_live.ensures.told
+    c.requires.readable.sides.side.file c.in_ok-add_entries.ensures.told in
+    both_told h active (file_of 0 (w g a)) c.args.from old new new c.requires.readable.sides.side refl c.in_ok-add_live.ensures.told
     (subst (λ (o : Option File). IfSome o (λ f. (all : List Entry) × (log_entries active f.bytes ≡ Ok all) × (new ≡ old ++ drop (c.args.from - active.first) all))) same rest)
 
 pub returns-clause-numbers : goal.returns-clause-numbers
 returns-clause-numbers g c =
     let active = c.args.active.now in
     let numbers = c.in_ok-add_live.ensures.numbers in
-    both_numbers c.args.from active.first (active_first c.args.header.now) active.next (active.place - active.start) c.add_live.new.entries.items c.add_entries.new.entries.items c.requires.sides.side.first
+    both_numbers c.args.from active.first (active_first c.args.header.now) active.next (active.place - active.start) c.add_live.new.entries.items c.add_entries.new.entries.items c.requires.readable.sides.side.first
     numbers.0 numbers.1 c.in_ok-add_entries.ensures.part
 
 pub returns-in_err-add_live-clause-some : goal.returns-in_err-add_live-clause-some
 returns-in_err-add_live-clause-some g c =
     let some = c.add_live.ensures.some in
-    (some.0, omega (arith, some.1, c.requires.sides.least))
+    (some.0, omega (arith, some.1, c.requires.readable.sides.least))
 
 pub returns-in_err-add_entries-clause-some : goal.returns-in_err-add_entries-clause-some
 returns-in_err-add_entries-clause-some g c =
     let active = c.args.active.now in
     let numbers = c.in_ok-add_live.ensures.numbers in
-    both_some c.args.from active.first (active_first c.args.header.now) active.next c.add_live.new.entries.items c.add_entries.new.entries.items c.requires.sides.side.first c.requires.sides.least
+    both_some c.args.from active.first (active_first c.args.header.now) active.next c.add_live.new.entries.items c.add_entries.new.entries.items c.requires.readable.sides.side.first c.requires.readable.sides.least
     numbers.0 numbers.1 c.add_entries.ensures.some
 
 pub returns-clause-some : goal.returns-clause-some
 returns-clause-some g c =
     let active = c.args.active.now in
     let numbers = c.in_ok-add_live.ensures.numbers in
-    both_some c.args.from active.first (active_first c.args.header.now) active.next c.add_live.new.entries.items c.add_entries.new.entries.items c.requires.sides.side.first c.requires.sides.least
+    both_some c.args.from active.first (active_first c.args.header.now) active.next c.add_live.new.entries.items c.add_entries.new.entries.items c.requires.readable.sides.side.first c.requires.readable.sides.least
     numbers.0 numbers.1 c.add_entries.ensures.some

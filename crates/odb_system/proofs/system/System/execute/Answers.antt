@@ -1,64 +1,83 @@
-use Rattle.std.proofs.Common.{◌≡◌, ◌<◌, ◌++◌, length, Option, Some, None, refl, ap, subst, sym, ◌∙◌, rules, arith}
-use Rattle.odb_model.specs.Storable.{AreStorable}
+use Rattle.std.proofs.Common.{◌≡◌, ◌<◌, length, Option, Some, None, refl, ap, subst, sym, ◌∙◌, arith}
 use Rattle.std.specs.Prelude.{slice_set}
-use Rattle.odb_model.specs.declared.reply.Reply.TheVariants.{NoTransaction}
-use Rattle.odb_model.specs.State.{replay, after_writes}
-use Rattle.odb_model.specs.Transaction.{read_at}
-use Rattle.odb_model.proofs.Stored.{more_stored}
-use Rattle.odb_system.specs.Held.{Open, Held, IsOpen, HeldExecutes, session_at, with_open, grown, meaning_in}
-use Rattle.odb_plain.specs.Form.{statement_of}
-use Rattle.odb_system.proofs.Resting.{built_of, executes_none, held_open, session_here, open_here, grown_is, reply_is}
+use Rattle.odb_model.specs.declared.reply.Reply.{Reply}
+use Rattle.odb_model.specs.declared.reply.Reply.TheVariants.{NoTransaction, Memory}
+use Rattle.odb_model.specs.State.{State, replay}
+use Rattle.odb_txn.specs.Transaction.{Kept}
+use Rattle.odb_system.specs.Open.{HasKeyedRows, HasOwnKeys, IsOpen, meaning_on, grown_on}
+use Rattle.odb_system.specs.Held.{Held, AreRowsOf, HeldExecutes, session_at, with_open, grown, meaning_in}
+use Rattle.odb_system.proofs.Owned.{sees_keys, grown_keyed}
+use Rattle.odb_system.proofs.Resting.{executes_none, held_open, session_here, open_here, set_same}
 use Rattle.odb_system.proofs.Simulates.{executed}
 use Rattle.odb_system.proofs.system.System.execute.Goals as goal
+use Rattle.odb_system.proofs.system.System.execute.Goals.{In-Some, in-Ok, in-Err}
 
-module _ (c : goal.Else-is_err) where
-  held : Held
-  held = record { history = c.self.inside.history.items; sessions = c.self.inside.sessions.items; transdb = c.self.inside.transdb; in_doubt = c.self.inside.in_doubt }
-
-  grew : c.grow.new.self ≡ record { reads = c.in-Some.transaction.reads ++ read_at c.len-number.result c.in-Ok.outcome.reads; write_set = c.in-Some.transaction.write_set ++ c.in-Ok.outcome.writes }
-  grew = search rules
-
-  is_grown : c.grow.new.self ≡ grown held (statement_of c.args.form) c.in-Some.transaction
-  unfolding held
-  is_grown =
-      grown_is held (statement_of c.args.form) c.in-Some.transaction c.grow.new.self c.as_slice-history.result.now c.write_set.result.now c.len-number.result c.format-format.result c.in-Ok.outcome
-      c.as_slice-history.ensures c.write_set.ensures c.len-number.ensures c.format-format.ensures c.in-Ok.ensures.reads c.in-Ok.ensures.writes grew
-
-  stored : AreStorable (grown held (statement_of c.args.form) c.in-Some.transaction).write_set
-  unfolding held
-  stored =
-      more_stored (statement_of c.args.form) (after_writes (replay held.history) c.in-Some.transaction.write_set) c.in-Some.transaction.write_set held.transdb.header.format (built_of c.args.form)
-      (subst IsOpen c.in-Some.is (open_here held c.args.at c.index_mut.result.now c.self.invariant c.requires c.index_mut.ensures.value))
-
-pub invariant_of-self-2 : goal.invariant_of-self-2
-unfolding held
-invariant_of-self-2 c = held_open (held c) c.args.at (Some c.grow.new.self) c.self.invariant (subst (λ (t : Open). AreStorable t.write_set) (sym (is_grown c)) (stored c))
-
-pub returns : goal.returns
-unfolding held
-returns c =
-    let st = (statement_of c.args.form) in
-    let t : Open = c.in-Some.transaction in
-    let within : c.args.at < length c.self.inside.sessions.items = omega (arith, c.requires, c.self.invariant.count) in
-    let some : session_at (held c) c.args.at ≡ Some t =
-    session_here c.self.inside.sessions.items c.args.at c.index_mut.result.now within c.index_mut.ensures.value ∙ c.in-Some.is in
-    let after : Held = with_open (held c) c.args.at (Some c.grow.new.self) in
-    let meant : c.in-Ok.outcome.reply ≡ (meaning_in (held c) st t).reply =
-    reply_is (held c) st t c.as_slice-history.result.now c.write_set.result.now c.format-format.result c.in-Ok.outcome.reply c.as_slice-history.ensures c.write_set.ensures c.format-format.ensures c.in-Ok.ensures.reply in
-    let step : HeldExecutes (held c) c.args.at st (Some t) c.in-Ok.outcome.reply after =
-    executed (held c) c.args.at st t c.in-Ok.outcome.reply after meant (ap (λ (x : Open). with_open (held c) c.args.at (Some x)) (is_grown c)) in
-    subst (λ (h : Held). HeldExecutes h c.args.at st (session_at h c.args.at) c.in-Ok.outcome.reply after) c.self.view_is
-    (subst (λ (o : Option Open). HeldExecutes (held c) c.args.at st o c.in-Ok.outcome.reply after) (sym some) step)
-
-none_here : (o : Option Open) → ((t : Open) → o ≡ Some t → ⊥) → o ≡ None
+none_here : (o : Option Kept) → ((t : Kept) → o ≡ Some t → ⊥) → o ≡ None
 none_here None other = refl
 none_here (Some t) other = absurd (other t refl)
 
 pub returns-in_default : goal.returns-in_default
 returns-in_default c =
     let held : Held = record { history = c.self.inside.history.items; sessions = c.self.inside.sessions.items; transdb = c.self.inside.transdb; in_doubt = c.self.inside.in_doubt } in
-    let x : Option Open = c.index_mut.result.now in
-    let within : c.args.at < length held.sessions = omega (arith, c.requires, c.self.invariant.count) in
+    let x : Option Kept = c.index_mut.result.now in
+    let within : c.args.at < length held.sessions = omega (arith, c.requires, c.self.invariant.0.count) in
     let after : Held = record held { sessions = slice_set held.sessions c.args.at x } in
-    subst (λ (h : Held). HeldExecutes h c.args.at (statement_of c.args.form) (session_at h c.args.at) NoTransaction after) c.self.view_is
-    (executes_none held c.args.at (statement_of c.args.form) x within c.index_mut.ensures.value (none_here x c.in_default.not-Some))
+    subst (λ (h : Held). HeldExecutes h c.args.at c.args.statement.now (session_at h c.args.at) NoTransaction after) c.self.view_is
+    (executes_none held c.args.at c.args.statement.now x within c.index_mut.ensures.value (none_here x c.in_default.not-Some))
+
+module _ (c : In-Some) where
+  abbrev held : Held
+  held = record { history = c.self.inside.history.items; sessions = c.self.inside.sessions.items; transdb = c.self.inside.transdb; in_doubt = c.self.inside.in_doubt }
+
+  owns_keys : HasOwnKeys c.in-Some.transaction
+  owns_keys = subst IsOpen c.in-Some.is (open_here held c.args.at c.index_mut.result.now c.self.invariant.0 c.requires c.index_mut.ensures.value)
+
+  sees : HasKeyedRows c.self.inside.rows.state c.in-Some.transaction
+  sees = subst (λ (s : State). HasKeyedRows s c.in-Some.transaction) (sym c.self.invariant.1.state) (sees_keys held.history c.in-Some.transaction c.self.invariant.0.keyed owns_keys)
+
+  here : session_at held c.args.at ≡ Some c.in-Some.transaction
+  here =
+      let within : c.args.at < length c.self.inside.sessions.items = omega (arith, c.requires, c.self.invariant.0.count) in
+      session_here c.self.inside.sessions.items c.args.at c.index_mut.result.now within c.index_mut.ensures.value ∙ c.in-Some.is
+
+pub run_statement-requires-clause-keys : goal.run_statement-requires-clause-keys
+run_statement-requires-clause-keys c = sees (goal.at.run_statement-requires-clause-keys c).In-Some
+
+pub invariant_of-self-2 : goal.invariant_of-self-2
+invariant_of-self-2 c =
+    let b = (goal.at.invariant_of-self-2 c).In-Some in
+    let t : Kept = c.in-Some.transaction in
+    let own : HasOwnKeys c.run_statement.new.transaction =
+    elim c.match-run_statement.branch as (λ _. HasOwnKeys c.run_statement.new.transaction) [
+      | in-Ok w ↦ subst HasOwnKeys (sym w.in-Ok.ensures.ok) (grown_keyed c.self.inside.rows.state c.args.statement.now t c.len-number.result c.format-format.result (sees b) (owns_keys b))
+      | in-Err w ↦ subst HasOwnKeys (sym w.in-Err.ensures.err) (owns_keys b)
+    ] in (
+      held_open (held b) c.args.at (Some c.run_statement.new.transaction) c.self.invariant.0 own,
+      record { state = c.run_statement.ensures.state ∙ c.self.invariant.1.state; waiting = omega (arith, c.run_statement.ensures.fewer, c.self.invariant.1.waiting) },
+    )
+
+pub returns : goal.returns
+returns c =
+    let b = (goal.at.returns c).In-Some in
+    let st = c.args.statement.now in
+    let t : Kept = c.in-Some.transaction in
+    let after : Held = with_open (held b) c.args.at (Some c.run_statement.new.transaction) in
+    let rows : c.self.inside.rows.state ≡ replay (held b).history = c.self.invariant.1.state in
+    let step : HeldExecutes (held b) c.args.at st (Some t) c.match-run_statement.result after =
+    elim c.match-run_statement.branch as (λ _. HeldExecutes (held b) c.args.at st (Some t) c.match-run_statement.result after) [
+      | in-Ok w ↦
+          let meant : w.in-Ok.reply ≡ (meaning_in (held b) st t).reply =
+          w.in-Ok.ensures.reply ∙ (λ i. (meaning_on (rows i) st t (c.format-format.ensures.value i)).reply) in
+          let next : c.run_statement.new.transaction ≡ grown (held b) st t =
+          w.in-Ok.ensures.ok ∙ (λ i. grown_on (rows i) st t (c.len-number.ensures i) (c.format-format.ensures.value i)) in
+          subst (λ (r : Reply). HeldExecutes (held b) c.args.at st (Some t) r after) (sym w.result-is)
+          (executed (held b) c.args.at st t w.in-Ok.reply after meant (ap (λ (x : Kept). with_open (held b) c.args.at (Some x)) next))
+      | in-Err w ↦
+          let same : after ≡ held b =
+          ap (λ (x : Kept). with_open (held b) c.args.at (Some x)) w.in-Err.ensures.err
+          ∙ ap (with_open (held b) c.args.at) (sym c.in-Some.is)
+          ∙ ap (λ xs. record (held b) { sessions = xs }) (set_same (held b).sessions c.args.at c.index_mut.result.now c.index_mut.ensures.value) in
+          subst (λ (r : Reply). HeldExecutes (held b) c.args.at st (Some t) r after) (sym w.result-is) same
+    ] in
+    subst (λ (h : Held). HeldExecutes h c.args.at st (session_at h c.args.at) c.match-run_statement.result after) c.self.view_is
+    (subst (λ (o : Option Kept). HeldExecutes (held b) c.args.at st o c.match-run_statement.result after) (sym (here b)) step)

@@ -14,13 +14,14 @@ use Rattle.odb_transdb.specs.declared.error.TransdbError.TheVariants.{Full, Faul
 use Rattle.odb_transdb.specs.Opened.{entries_in}
 use Rattle.odb_transdb.specs.Standing.{Db}
 use Rattle.odb_transdb.specs.Answers.{IsForceAnswer, HoldsAll, HoldsAllOrMore}
-use Rattle.odb_transdb.specs.Worlds.{WritesFromGate, WritesBehindGate}
+use Rattle.odb_transdb.specs.Worlds.{WritesFromGate, WritesRecord, WritesBehindGate}
 use Rattle.odb_model.specs.declared.reply.Reply.TheVariants.{Committed, InDoubt as InDoubtReply, Full as FullReply, Fault}
 use Rattle.odb_model.specs.Book.{Writes, next_entry}
-use Rattle.odb_system.specs.Held.{Held, IsHeld, Begins, sides_of, book_in, IsDecided}
+use Rattle.odb_system.specs.Held.{Held, IsHeld, AreRowsOf, Begins, sides_of, book_in, IsDecided}
 use Rattle.odb_system.specs.Durable.{history_or_more_of, IsDurable, HoldsThroughout, DoubtedAtGate, HeldWritesWithin}
 use Rattle.odb_codec.proofs.Lengths.{length-entry_image}
-use Rattle.odb_system.proofs.Sealing.{begins_of, room_agrees, image_reads, holds_more, holds_same, durable_next, durable_again, durable_either, held_next, held_doubted, doubted_at_gate}
+use Rattle.odb_system.proofs.Resting.{SameLog, holds_resting}
+use Rattle.odb_system.proofs.Sealing.{begins_of, room_agrees, image_reads, holds_more, holds_same, durable_next, durable_again, durable_either, held_next, held_doubted, rows_next, doubted_at_gate}
 use Rattle.odb_system.proofs.system.System.seal.Goals as goal
 use Rattle.odb_system.proofs.system.System.seal.Goals.{After-as_slice-2}
 use Rattle.odb_system.proofs.system.System.seal.Given as given
@@ -55,7 +56,7 @@ module _ (g : given.Over) (c : After-as_slice-2 g) where
   width = ap length payload_is ∙ length-entry_image entry
 
   begins : Begins held.transdb held.history
-  begins = begins_of held settled c.self.invariant
+  begins = begins_of held settled c.self.invariant.0
 
   reads : read_entry held.transdb.active.next c.as_slice-2.result.now ≡ Ok entry
   reads = image_reads held.transdb.active.next entry c.as_slice-2.result.now (number ∙ begins.next) c.in-Ok.ensures.lawful payload_is
@@ -68,9 +69,11 @@ pub invariant_of-self-in-Ok-force : goal.invariant_of-self-in-Ok-force
 invariant_of-self-in-Ok-force g c =
     let b = (goal.at.invariant_of-self-in-Ok-force g c).After-as_slice-2 in
     let pushed : c.push.new.self.items ≡ (held g b).history ++ entry g b ∷ [] = grown g b c.push.new.self.items (ap (λ (l : Listed Entry). l.items) c.push.ensures) in
+    let is : IsHeld (record { history = c.push.new.self.items; sessions = slice_set c.self.inside.sessions.items c.args.at None; transdb = c.force.new.self; in_doubt = c.self.inside.in_doubt }) =
     subst (λ (h : List Entry). IsHeld (record { history = h; sessions = slice_set c.self.inside.sessions.items c.args.at None; transdb = c.force.new.self; in_doubt = c.self.inside.in_doubt })) (sym pushed)
-    (held_next (held g b) c.force.new.self (entry g b) c.args.at (length c.as_slice-2.result.now) c.self.inside.in_doubt c.self.invariant (settled g b) (settled g b)
-    c.in-Ok-force.ensures.placed.after (number g b) (width g b) c.in-Ok-force.ensures.forced.advanced)
+    (held_next (held g b) c.force.new.self (entry g b) c.args.at (length c.as_slice-2.result.now) c.self.inside.in_doubt c.self.invariant.0 (settled g b) (settled g b)
+    c.in-Ok-force.ensures.placed.after (number g b) c.in-Ok-placed.ensures.keyed (width g b) c.in-Ok-force.ensures.forced.advanced) in
+    (is, rows_next (held g b).history c.push.new.self.items (entry g b) c.in-Ok-placed.copy c.self.inside.rows c.push-in-Ok-force.new.self c.self.invariant.1 pushed c.in-Ok-placed.ensures.placed c.push-in-Ok-force.ensures)
 
 pub returns-in-Ok-force-clause-step : goal.returns-in-Ok-force-clause-step
 returns-in-Ok-force-clause-step g c =
@@ -132,11 +135,21 @@ returns-in-Full-clause-step g c =
     } in
     subst (λ (h : Held). IsDecided h c.args.at (Writes c.args.writes) (FullReply c.in-Full.need c.in-Full.room) after) c.self.view_is decided
 
+pub returns-in-Full-clause-run : goal.returns-in-Full-clause-run
+returns-in-Full-clause-run g c =
+    let b = (goal.at.returns-in-Full-clause-run g c).After-as_slice-2 in
+    let w : World = g.H.Outside.world c.args.host.now in
+    let full = c.force.ensures.full c.in-Full.need c.in-Full.room (c.in-Err.is ∙ ap Err c.in-Full.is) in
+    let after : Held = record { history = c.reserve_place.new.history.items; sessions = c.self.inside.sessions.items; transdb = c.force.new.self; in_doubt = c.self.inside.in_doubt } in
+    let log : SameLog (held g b) after = record { history = history_is g b; transdb = full.0; in_doubt = refl } in
+    subst (λ (h : Held). Runs 0 (HoldsThroughout h after) w (g.H.Outside.world c.force.new.store)) c.self.view_is
+    (subst (λ (now : World). Runs 0 (HoldsThroughout (held g b) after) w now) (sym (ap g.H.Outside.world full.1)) (holds_resting (held g b) after w log (durable g b)))
+
 pub invariant_of-self-in-Err-2 : goal.invariant_of-self-in-Err-2
 invariant_of-self-in-Err-2 g c =
     let b = (goal.at.invariant_of-self-in-Err-2 g c).After-as_slice-2 in
-    subst (λ (h : List Entry). IsHeld (record { history = h; sessions = slice_set c.self.inside.sessions.items c.args.at None; transdb = c.force.new.self; in_doubt = Some (entry g b) })) (sym (history_is g b))
-    (held_doubted (held g b) c.force.new.self (entry g b) c.args.at c.self.invariant (settled g b) c.force.ensures.placed.header (number g b))
+    subst (λ (h : List Entry). IsHeld (record { history = h; sessions = slice_set c.self.inside.sessions.items c.args.at None; transdb = c.force.new.self; in_doubt = Some (entry g b) }) × AreRowsOf h c.self.inside.rows) (sym (history_is g b))
+    (held_doubted (held g b) c.force.new.self (entry g b) c.args.at c.self.invariant.0 (settled g b) c.force.ensures.placed.header (number g b), c.self.invariant.1)
 
 pub returns-in-InDoubt-clause-step : goal.returns-in-InDoubt-clause-step
 returns-in-InDoubt-clause-step g c =
@@ -233,7 +246,7 @@ returns-in-Ok-force-clause-writes g c =
     let b = (goal.at.returns-in-Ok-force-clause-writes g c).After-as_slice-2 in
     let w : World = g.H.Outside.world c.args.host.now in
     let now : World = g.H.Outside.world c.force.new.store in
-    subst (λ (h : Held). HeldWritesWithin WritesFromGate h w now) c.self.view_is (record { begins = begins g b; only = c.in-Ok-force.ensures.only })
+    subst (λ (h : Held). HeldWritesWithin WritesRecord h w now) c.self.view_is (record { begins = begins g b; only = (c.in-Ok-force.ensures.only, c.in-Ok-force.ensures.forced.clear) })
 
 pub returns-in-Full-clause-writes : goal.returns-in-Full-clause-writes
 returns-in-Full-clause-writes g c = ap g.H.Outside.world (c.force.ensures.full c.in-Full.need c.in-Full.room (c.in-Err.is ∙ ap Err c.in-Full.is)).1

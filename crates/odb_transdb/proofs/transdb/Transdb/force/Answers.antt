@@ -14,6 +14,7 @@ use Rattle.odb_transdb.specs.declared.transdb.Transdb.TheInside.{Inside}
 use Rattle.odb_transdb.specs.contracts.transdb.Transdb.{the_view}
 use Rattle.odb_transdb.proofs.Standing.{is_placed}
 use Rattle.odb_transdb.proofs.Forcing.{still_holds}
+use Rattle.odb_transdb.proofs.Leaving.{clear_tail}
 use Rattle.odb_transdb.proofs.Forced.{entry_read, keeps_or_adds, is_written, forced_run, forced_entries, forced_doubt, behind_gate, from_gate, ok_of, err_of}
 use Rattle.odb_transdb.proofs.transdb.Transdb.force.Given.{Over}
 use Rattle.odb_transdb.proofs.transdb.Transdb.force.Goals as goal
@@ -46,6 +47,10 @@ module _ (g : Over) (c : After-open_gate g) where
   -- what a log at its gate is
   header : c.open_gate.new.self.header ≡ c.args.self.now.header
   header = c.open_gate.ensures.same ∙ c.write_record.ensures.settled.header
+
+-- where the active side lied at first
+placed : (d : Db) (inside : Inside) → the_view inside ≡ d → IsDb (the_view inside) → IsPlaced d
+placed d inside is db = subst IsPlaced is (is_placed (the_view inside) db)
 
 -- the record stands behind its gate
 pub open_gate-requires : goal.open_gate-requires
@@ -98,16 +103,18 @@ pub returns-in-Ok-clause-forced : goal.returns-in-Ok-clause-forced
 returns-in-Ok-clause-forced g c =
     let a = (goal.at.returns-in-Ok-clause-forced g c).After-open_gate in
     let e = entry_read c.args.self.now.active.next c.args.payload.now c.requires.payload in
-    let ok = c.in-Ok.ensures.ok in
+    let ok = c.in-Ok.ensures.opened in
     let settled = c.write_record.ensures.settled in
+    let stands = c.in-Ok.ensures.stands e.0 (mid_written g a e.0 e.1) in
     record {
-      stands = c.in-Ok.ensures.stands e.0 (mid_written g a e.0 e.1);
+      stands = stands;
       advanced = record {
         header = header g a;
-        next = omega (arith, ok.0, settled.next);
-        place = omega (arith, ok.1, (done g a).behind);
-        usable = ok.2;
+        next = omega (arith, ok.next, settled.next);
+        place = omega (arith, ok.place, (done g a).behind);
+        usable = ok.usable;
       };
+      clear = clear_tail c.args.self.now c.open_gate.new.self (now g a) (placed c.args.self.now c.self.inside c.self.view_is c.self.invariant) c.open_gate.ensures.placed (header g a) stands ok.clear;
     }
 
 pub returns-in-Err-clause-entry : goal.returns-in-Err-clause-entry
@@ -122,10 +129,6 @@ returns-in-Err-clause-doubt g c = λ number is.
           c.open_gate.ensures.calls c.open_gate.ensures.only c.in-Err.ensures.cause;
       place = (c.in-Err.ensures.err.0 ∙ settled.next, c.in-Err.ensures.err.1 ∙ settled.place);
     }
-
--- where the active side lied at first
-placed : (d : Db) (inside : Inside) → the_view inside ≡ d → IsDb (the_view inside) → IsPlaced d
-placed d inside is db = subst IsPlaced is (is_placed (the_view inside) db)
 
 pub returns-then-room-need-clause-placed : goal.returns-then-room-need-clause-placed
 returns-then-room-need-clause-placed g c =

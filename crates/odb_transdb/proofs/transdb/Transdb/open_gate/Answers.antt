@@ -1,5 +1,5 @@
-use Rattle.std.proofs.Common.{◌≡◌, ℕ, ◌+◌, ◌≤◌, false, [], ◌∷◌, sym, ap, ◌∙◌, subst}
-use Rattle.std.specs.Prelude.{OnOk}
+use Rattle.std.proofs.Common.{◌≡◌, ℕ, ◌≤◌, [], ◌∷◌, sym, ap, ◌∙◌, subst}
+use Rattle.std.specs.Prelude.{OnOk, IfOk}
 use Rattle.odb_device.specs.World.{World, file_of}
 use Rattle.odb_device.specs.Images.{TornFrom}
 use Rattle.odb_device.specs.Calls.{IsOnePut}
@@ -13,9 +13,10 @@ use Rattle.odb_transdb.specs.Standing.{Db, IsDb, Stands}
 use Rattle.odb_transdb.specs.Answers.{HoldsAllOrMore}
 use Rattle.odb_transdb.specs.Steps.{IsWritten}
 use Rattle.odb_transdb.specs.Worlds.{AddsEntry, IsAtGate}
+use Rattle.odb_transdb.specs.Leaving.{MovesOn}
 use Rattle.odb_transdb.specs.contracts.transdb.Transdb.{the_view}
 use Rattle.odb_transdb.proofs.Standing.{with_active, stands_log, is_placed}
-use Rattle.odb_transdb.proofs.Forcing.{HasRoom, IsReady, opening_run, opening_entries, opening_stands, opening_only, ok_then, gate_db}
+use Rattle.odb_transdb.proofs.Forcing.{HasRoom, IsReady, opening_run, opening_entries, opening_stands, opening_only, ok_then, moves_on, gate_db}
 use Rattle.odb_transdb.proofs.transdb.Transdb.open_gate.Given.{Over}
 use Rattle.odb_transdb.proofs.transdb.Transdb.open_gate.Goals as goal
 use Rattle.odb_transdb.proofs.transdb.Transdb.open_gate.Goals.{After-open_gate}
@@ -86,13 +87,12 @@ returns-clause-entry g c = λ e written.
       added = entries g a e written;
     }
 
-pub returns-clause-ok : goal.returns-clause-ok
-returns-clause-ok g c =
+pub returns-clause-opened : goal.returns-clause-opened
+returns-clause-opened g c =
     let log = c.open_gate.new.self in
-    let db = the_view c.self.inside in
-    subst (λ (d : Db). OnOk c.open_gate.result ((log.next ≡ d.active.next + 1) × (log.place ≡ d.active.clear_from) × (log.in_doubt ≡ false))) c.self.view_is
-    (ok_then (IsAdded db.active log (g.S.Outside.world c.args.store.now) (g.S.Outside.world c.open_gate.new.store)) ((log.next ≡ db.active.next + 1) × (log.place ≡ db.active.clear_from) × (log.in_doubt ≡ false)) c.open_gate.result
-    (λ added. (added.next, added.place, added.usable)) c.open_gate.ensures.added)
+    let r = c.open_gate.result in
+    subst (λ (d : Db). IfOk r (λ n. MovesOn n d.active log)) c.self.view_is
+    (moves_on r (the_view c.self.inside).active log (g.S.Outside.world c.args.store.now) (g.S.Outside.world c.open_gate.new.store) c.open_gate.ensures.number c.open_gate.ensures.added)
 
 pub returns-clause-stands : goal.returns-clause-stands
 returns-clause-stands g c = λ e written. stands g (goal.at.returns-clause-stands g c).After-open_gate e written
