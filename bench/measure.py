@@ -70,15 +70,36 @@ def play(where, script, said):
     return timed([PROGRAM, "play"], where, script, said)
 
 
-def watched(words, where, script="/dev/null"):
-    """Runs the words in the folder on the script, and answers the greatest memory in bytes."""
-    with open(script, "rb") as given:
-        child = subprocess.Popen(words, cwd=where, stdin=given, stdout=subprocess.DEVNULL)
-    _, status, usage = os.wait4(child.pid, 0)
+def watched(words, where, script="/dev/null", said="/dev/null"):
+    """Runs the words in the folder on the script, and answers the seconds by the clock and those of
+    the processors."""
+    with open(script, "rb") as given, open(said, "wb") as taken:
+        begun = time.monotonic()
+        child = subprocess.Popen(words, cwd=where, stdin=given, stdout=taken)
+        _, status, usage = os.wait4(child.pid, 0)
+        clock = time.monotonic() - begun
     child.returncode = os.waitstatus_to_exitcode(status)
     if child.returncode != 0:
         sys.exit(f"{words} failed")
-    return usage.ru_maxrss * 1024
+    return clock, usage.ru_utime + usage.ru_stime
+
+
+def opening_memory(where):
+    """The greatest memory of a play up to its first reply, in bytes.
+
+    The system tells it of the process itself. What it tells of a process that has ended may be the
+    memory of the one that started it.
+    """
+    with subprocess.Popen([PROGRAM, "play"], cwd=where, stdin=subprocess.PIPE,
+                          stdout=subprocess.PIPE) as child:
+        child.stdin.write(b"1 START\n")
+        child.stdin.flush()
+        if child.stdout.readline() != b"1 OK\n":
+            sys.exit("an opening failed")
+        status = Path(f"/proc/{child.pid}/status").read_text()
+        child.stdin.close()
+    most = next(line for line in status.split("\n") if line.startswith("VmHWM:"))
+    return int(most.split()[1]) * 1024
 
 
 def spread(seconds):

@@ -10,3 +10,17 @@ pub mod Replaying
 pub mod Spelling
 pub mod Framing
 pub mod HeadFields
+pub mod NewFile
+pub mod Marks
+pub mod Items
+pub mod Lawful
+pub mod Searching
+pub mod Slotting
+pub mod OpenedFile
+pub mod Holding
+pub mod Choice
+pub mod Got
+pub mod GateTurn
+pub mod GateFiles
+pub mod Nearest
+pub mod MarkTurn

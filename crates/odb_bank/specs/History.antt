@@ -55,3 +55,7 @@ pub record IsLast (h : History) (a : ℕ) (key : Key) (j : ℕ) : Type 0 where
 pub record GoesOn (h longer : History) : Type 0 where
   pub count : h.count ≤ longer.count
   pub same : (k : ℕ) (key : Key) → k ≤ h.count → longer.write k key ≡ h.write k key
+
+-- none of the first a entries writes a key of the bank
+abbrev pub WritesNoneTo : History → ℕ → Type 0
+WritesNoneTo h a = (key : Key) (k : ℕ) → 1 ≤ k → k ≤ a → h.write k key ≡ None

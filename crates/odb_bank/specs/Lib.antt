@@ -10,3 +10,11 @@ pub mod Spelled
 pub mod Fields
 pub mod Files
 pub mod Owned
+pub mod Bank
+pub mod Opening
+pub mod Reading
+pub mod Answers
+pub mod Finding
+pub mod Gates
+pub mod Choosing
+pub mod Refusals

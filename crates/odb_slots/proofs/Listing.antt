@@ -30,7 +30,7 @@ slot_of_item n body item is = cond_both _ (Some (item_by n (head_in body) body))
     (λ yes. λ e. let same : item_by n (head_in body) body ≡ item = cc e in ap (λ (i : SlotItem). i.slot) (sym same))
     (λ no. λ e. absurd (cc e)) is
 
-slot_of_open : (n gate : ℕ) (body : List ℕ) (item : SlotItem) → behind gate (item_in n body) ≡ Some item → item.slot ≡ n
+pub slot_of_open : (n gate : ℕ) (body : List ℕ) (item : SlotItem) → behind gate (item_in n body) ≡ Some item → item.slot ≡ n
 slot_of_open n gate body item is = cond_both _ (item_in n body) None (λ (o : Option SlotItem). o ≡ Some item → item.slot ≡ n)
     (λ yes. λ e. slot_of_item n body item e)
     (λ no. λ e. absurd (cc e)) is

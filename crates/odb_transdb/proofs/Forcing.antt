@@ -306,7 +306,7 @@ module _ (db : Db) (log : Log) (w now : World) (ready : IsReady db w) (run : Run
 
 -- where it goes on
 pub moves_on : {E : Type 0} (r : Result ℕ E) (old new : Log) (w now : World) → IfOk r (λ n. n ≡ old.next) → OnOk r (IsAdded old new w now) → IfOk r (λ n. MovesOn n old new)
-moves_on (Ok n) old new w now number added = record { number_is = number; next = added.next; place = added.place; clear = added.clear; usable = added.usable }
+moves_on (Ok n) old new w now number added = record { number_is = number; next = added.next; place = added.place; usable = added.usable }
 moves_on (Err e) old new w now number added = tt
 
 -- the log goes on no earlier than before

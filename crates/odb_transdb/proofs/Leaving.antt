@@ -1,17 +1,18 @@
 -- What the parts of an opening leave, from what the calls below them leave.
-use Rattle.std.proofs.Common.{◌≡◌, ◌≢◌, ℕ, ◌+◌, false, List, [], length, Option, Some, None, Result, Ok, Err, refl, sym, ◌∙◌, ap, subst, arith}
+use Rattle.std.proofs.Common.{◌≡◌, ◌≢◌, inr, ℕ, ◌+◌, ◌<◌, ◌≤◌, false, List, [], length, Option, Some, None, Result, Ok, Err, refl, sym, ◌∙◌, ap, subst, arith}
 use Rattle.std.specs.Prelude.{is_some, option_map, IfSome, IfOk}
 use Rattle.std.proofs.lemmas.Bool.{false≢true}
 use Rattle.odb_device.specs.World.{File, World, file_of}
-use Rattle.odb_device.specs.Images.{EachImage, ReadsImage, kept}
+use Rattle.odb_device.specs.Images.{IsImage, EachImage, ReadsImage, Torn, TornFrom, kept}
 use Rattle.odb_device.specs.Zeros.{AreZero}
 use Rattle.odb_device.specs.Calls.{Keeps}
-use Rattle.odb_device.proofs.Time.{weakens}
+use Rattle.odb_device.specs.Moments.{WritesWithin}
+use Rattle.odb_device.proofs.Time.{weakens, run_end}
 use Rattle.odb_device.proofs.Torn.{each_weakens}
 use Rattle.odb_reclog.specs.Told.{IfTold, OnlyReads}
 use Rattle.odb_reclog.specs.Records.{log_of, end_of_list}
 use Rattle.odb_reclog.specs.Regions.{region, KeepsListFrom, TearsOpenEnd, IsOpened as IsRegionOpened}
-use Rattle.odb_reclog.specs.Standing.{Log, IsClear, Stands as LogStands, StandsFor as LogStandsFor, list_of, list_in, tail_of}
+use Rattle.odb_reclog.specs.Standing.{Log, Stands as LogStands, list_of, list_in}
 use Rattle.odb_model.specs.declared.entry.Entry.{Entry}
 use Rattle.odb_model.specs.declared.side.OtherSide.{OtherSide}
 use Rattle.odb_model.specs.declared.side.OtherSide.TheVariants.{Live, Dirty, Clean}
@@ -165,22 +166,39 @@ pub behind_kept : {T : Type 0} (r : Result T TransdbError) (w mid now : World) �
 behind_kept (Ok x) w mid now is same = same ∙ entries_kept (file_of 0 w) (file_of 0 mid) is
 behind_kept (Err e) w mid now is same = tt
 
--- behind the list of a log whose tail is clear all is zeros
+-- from where the list of a log ends all is zeros
 abbrev IsClearIn : ℕ → ℕ → ℕ → List ℕ → Type 0
-IsClearIn start end first image = AreZero (end_of_list start (log_of start end first image) + 1) end image
+IsClearIn start end first image = AreZero (end_of_list start (log_of start end first image)) end image
 
-clear_log : (log : Log) (o : Option File) → LogStands log o → IsClear log → EachImage (IsClearIn log.start log.end log.first) o
-clear_log log o stands clear =
-    each_weakens (LogStandsFor log (list_of log o) (tail_of log o)) (IsClearIn log.start log.end log.first) o
-    (λ image one. λ i from to.
+clear_log : (log : Log) (from end : ℕ) (o : Option File) → log.place ≡ from → log.end ≡ end → LogStands log o → EachImage (AreZero from end) o → EachImage (IsClearIn log.start log.end log.first) o
+clear_log log from end None at ends stands zeros = tt
+clear_log log from end (Some f) at ends stands zeros = λ image is. λ i low high.
+    let one = stands image is in
     let place : end_of_list log.start (log_of log.start log.end log.first image) ≡ log.place = ap (end_of_list log.start) one.list ∙ one.place in
-    one.clear i (omega (arith, place, clear, from)) to) stands
+    zeros image is i (omega (arith, place, at, low)) (omega (arith, ends, high))
 
-pub clear_tail : (old new : Db) (now : World) → IsPlaced old → IsPlaced new → new.header ≡ old.header → Stands new (file_of 0 now) → IsClear new.active → HasClearTail old now
-clear_tail old new now before after header stands clear =
-    let o = file_of 0 now in
+-- what was zeros behind a body is so when nothing but its gate was written
+zeros_kept : (log : Log) (o p : Option File) → LogStands log o → TornFrom log.place 1 o p → EachImage (AreZero log.clear_from log.end) p
+zeros_kept log None p stands torn = subst (EachImage (AreZero log.clear_from log.end)) (sym torn) tt
+zeros_kept log (Some f) p stands torn =
+    each_weakens (λ image. (before : List ℕ) × IsImage f before × Torn log.place 1 before image) (AreZero log.clear_from log.end) p
+    (λ image b. λ i from to.
+    let one = stands b.0 b.1 in
+    let inside : i < length b.0 = omega (arith, one.long, to) in
+    let behind : log.place + 1 ≤ i = omega (arith, one.in_range.clear_from, from) in
+    b.2.outside i inside (inr behind) ∙ one.clear i from to) torn
+
+-- a record was put behind a clear tail: `mid` stood at its gate
+pub clear_tail : (old mid new : Db) (m now : World) → IsPlaced old → IsPlaced mid → IsPlaced new → mid.header ≡ old.header → new.header ≡ old.header → Stands mid (file_of 0 m) → WritesWithin 0 mid.active.place 1 m now
+    → Stands new (file_of 0 now) → new.active.place ≡ mid.active.clear_from → HasClearTail old now
+clear_tail old mid new m now before between after same header ready only stands moved =
+    let o = file_of 0 m in
+    let p = file_of 0 now in
     let log = new.active in
     let side : IsOfSide old.header old.header.active log = subst (λ (h : Header). IsOfSide h h.active log) header after.side in
-    subst (λ (s : ℕ). EachImage (IsClearIn s old.active.end old.active.first) o) (side.start ∙ sym before.side.start)
-    (subst (λ (e : ℕ). EachImage (IsClearIn log.start e old.active.first) o) (side.end ∙ sym before.side.end)
-    (subst (λ (n : ℕ). EachImage (IsClearIn log.start log.end n) o) (side.first ∙ sym before.side.first) (clear_log log o (stands_log new o stands) clear)))
+    let mid_side : IsOfSide old.header old.header.active mid.active = subst (λ (h : Header). IsOfSide h h.active mid.active) same between.side in
+    let zeros = zeros_kept mid.active o p (stands_log mid o ready) (run_end 0 (TornFrom mid.active.place 1 o) m now only) in
+    subst (λ (s : ℕ). EachImage (IsClearIn s old.active.end old.active.first) p) (side.start ∙ sym before.side.start)
+    (subst (λ (e : ℕ). EachImage (IsClearIn log.start e old.active.first) p) (side.end ∙ sym before.side.end)
+    (subst (λ (n : ℕ). EachImage (IsClearIn log.start log.end n) p) (side.first ∙ sym before.side.first)
+    (clear_log log mid.active.clear_from mid.active.end p moved (side.end ∙ sym mid_side.end) (stands_log new p stands) zeros)))

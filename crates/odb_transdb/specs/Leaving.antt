@@ -1,7 +1,7 @@
 -- What the parts of an opening and of a reading find, and what they leave of file 0.
 use Rattle.std.specs.Prelude.{◌≡◌, ◌≢◌, ℕ, ◌+◌, ◌-◌, ◌≤◌, false, List, Option, Result, Ok, Err, IfSome}
 use Rattle.odb_device.specs.World.{World, file_of}
-use Rattle.odb_reclog.specs.Standing.{Log, IsClear, Stands as LogStands}
+use Rattle.odb_reclog.specs.Standing.{Log, Stands as LogStands}
 use Rattle.odb_reclog.specs.Told.{IfTold, OnlyReads}
 use Rattle.odb_model.specs.declared.entry.Entry.{Entry}
 use Rattle.odb_model.specs.declared.side.OtherSide.TheVariants.{Live}
@@ -71,11 +71,9 @@ pub record CanReadSides (h : Header) (live : Option Log) (active : Log) (from : 
   pub from_held : first_held h ≤ from
   pub live_stands : IfSome live (λ log. LogStands log (file_of 0 w))
 
--- the gate of the record with this number was opened, and the next one goes behind it, where all is
--- clear
+-- the gate of the record with this number was opened, and the next one goes behind it
 pub record MovesOn (number : ℕ) (old new : Log) : Type 0 where
   pub number_is : number ≡ old.next
   pub next : new.next ≡ old.next + 1
   pub place : new.place ≡ old.clear_from
-  pub clear : IsClear new
   pub usable : new.in_doubt ≡ false

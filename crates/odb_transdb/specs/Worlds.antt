@@ -68,7 +68,7 @@ Settles old new before after = IsSettledIn (file_of 0 before) (file_of 0 after) 
 -- What an opening with this result leaves of file 0. At each moment each image opens as one from
 -- before, and is one from before but for open gates where the lists of the sides that hold entries
 -- end. At the end, unless a call failed, each of these gates reads as before or is closed. Where
--- there is no database nothing was written, and after Ok the entries are as before
+-- there is no database the bytes stay, and are on the disk; after Ok the entries are as before
 pub record LeavesOpened {T : Type 0} (result : Result T TransdbError) (old new : World) :
     Type 0 where
   pub run : OpensAsBefore old new
@@ -107,13 +107,13 @@ pub record PutsEntry {T E : Type 0} (db : Db) (e : Entry) (result : Result T E) 
   pub run : KeepsOrAddsEntry db e old new
   pub added : OnOk result (AddsEntry e old new)
 
--- in each image all is zeros behind the gate where the list of the active side ends
+-- in each image all is zeros from where the list of the active side ends
 abbrev pub HasClearTail : Db → World → Type 0
 HasClearTail db w =
     let log = db.active in
     EachImage (λ image.
     let place = end_of_list log.start (log_of log.start log.end log.first image) in
-    AreZero (place + 1) log.end image) (file_of 0 w)
+    AreZero place log.end image) (file_of 0 w)
 
 -- after a record of n bytes of payload was added, what is held stands, the next one goes behind it,
 -- and there all is clear
@@ -158,9 +158,9 @@ pub record FaultedBefore (old new : Db) (before after : World) : Type 0 where
 
 -- The file's count rose from the gate's write on. At a moment of this stretch, the last of `mid`,
 -- the tail had been made zeros, and the whole record but its gate was written and on the disk;
--- until then each image held just the entries before. From then on no call failed or changed anything
--- but the gate's write and the sync behind it, or one failed in its place and changed nothing; no
--- other byte than the gate may have changed, and the count rose
+-- until then each image held just the entries before. From then on no call failed or changed
+-- anything but the gate's write and the sync behind it, or one failed in its place and changed
+-- nothing; no other byte than the gate may have changed, and the count rose
 pub record RoseAtGate (db : Db) (payload : List ℕ) (old new : World) : Type 0 where
   pub mid : World
   pub before : KeepsEntries db old mid

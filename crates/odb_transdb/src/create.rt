@@ -24,9 +24,9 @@ impl Transdb {
     /// The format is 1.
     ///
     /// It zeroes both sides, in pieces of 65,536 bytes, and syncs; the pair comes last, in three
-    /// writes and three syncs. So at each moment, and after `Fault`, the one refusal, each image has
-    /// the pair that one from before had, if that was as long as a pair, or its sides are all zeros
-    /// already: then its pair may be any bytes, up to the end.
+    /// writes and three syncs. So at each moment, and after `Fault`, the one refusal, each image
+    /// has the pair that one from before had, if that was as long as a pair, or its sides are all
+    /// zeros already: then its pair may be any bytes, up to the end.
     pub fn create<S: Store>(store: &mut S, side_kib: u32, format: u16) -> Result<(), TransdbError>
         requires side { (64 ≤ side_kib) × (side_kib ≤ 16384) }
         requires format { format ≡ 1 }

@@ -31,11 +31,11 @@ impl Transdb {
     /// - `Full`: the record needs more bytes than the side has left. No call of the store was made.
     /// - `FaultBefore`: a call of the store failed before the gate was written, and the entry isn't
     ///   there. The call may be made again.
-    /// - `InDoubt`: the file's count rose in the gate's write or in the sync behind it, or in a call
-    ///   that failed in the place of that write and changed nothing; before them the record had been
-    ///   written in this call and was on the disk, and beside them no call failed or changed anything
-    ///   from then on. A crash leaves the entry or not. Only a new opening, and the calls that take
-    ///   no store, may follow.
+    /// - `InDoubt`: the file's count rose in the gate's write or in the sync behind it, or in a
+    ///   call that failed in the place of that write and changed nothing; before them the record
+    ///   had been written in this call and was on the disk, and beside them no call failed or
+    ///   changed anything from then on. A crash leaves the entry or not. Only a new opening, and
+    ///   the calls that take no store, may follow.
     pub fn force<S: Store>(&mut self, store: &mut S, payload: &[u8]) -> Result<u64, TransdbError>
         requires usable { self.old.active.in_doubt ≡ false }
         requires payload { IsEntryImage payload.now }

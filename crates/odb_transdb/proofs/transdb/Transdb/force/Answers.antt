@@ -114,7 +114,8 @@ returns-in-Ok-clause-forced g c =
         place = omega (arith, ok.place, (done g a).behind);
         usable = ok.usable;
       };
-      clear = clear_tail c.args.self.now c.open_gate.new.self (now g a) (placed c.args.self.now c.self.inside c.self.view_is c.self.invariant) c.open_gate.ensures.placed (header g a) stands ok.clear;
+      clear = clear_tail c.args.self.now c.write_record.new.self c.open_gate.new.self (m g a) (now g a) (placed c.args.self.now c.self.inside c.self.view_is c.self.invariant) c.write_record.ensures.placed c.open_gate.ensures.placed
+          settled.header (header g a) settled.stands c.open_gate.ensures.only stands ok.place;
     }
 
 pub returns-in-Err-clause-entry : goal.returns-in-Err-clause-entry

@@ -1,0 +1,84 @@
+-- Which of what memory keeps is the record of a key.
+use Rattle.std.specs.Prelude.{◌≡◌, ◌≢◌, ◌⊎◌, ℕ, ◌<◌, ◌≤◌, Bool, true, false, nat_lt, ◌==◌, ◌&&◌, ◌||◌, List, length, slice_get, Option, Some, None, IsTrue}
+use Rattle.std.specs.Ordering.{is_gt}
+use Rattle.odb_values.specs.declared.range.Range.{Range}
+use Rattle.odb_values.specs.declared.value.Value.{Value}
+use Rattle.odb_values.specs.Range.{in_range}
+use Rattle.odb_values.specs.Value.{values_cmp}
+use Rattle.odb_slots.specs.Slots.{OPEN, gate_at}
+use Rattle.odb_slots.specs.Views.{spelled}
+use Rattle.odb_bank.specs.declared.kept.Gate.TheVariants.{Open}
+use Rattle.odb_bank.specs.declared.kept.Kept.{Kept}
+use Rattle.odb_bank.specs.History.{Key}
+use Rattle.odb_bank.specs.Records.{Record}
+use Rattle.odb_bank.specs.Reading.{IsAfter}
+use Rattle.odb_bank.specs.Spelled.{record_of_slot}
+
+-- it is of the key, and open on the disk
+abbrev pub IsFor : Key → Kept → Type 0
+IsFor key it = (it.gate ≡ Open) × (it.at ≡ key)
+
+-- Of the first n, what is kept at this place is of the key; none of the others has a greater stamp,
+-- or the same and a lower slot.
+pub record IsBestAt (key : Key) (slots : List Kept) (n place : ℕ) (it : Kept) : Type 0 where
+  pub below : place < n
+  pub is_it : slice_get slots place ≡ Some it
+  pub its : IsFor key it
+  pub none_above : (k : ℕ) (other : Kept) → k < n → slice_get slots k ≡ Some other
+      → IsFor key other → other.stamp ≤ it.stamp
+  pub least : (k : ℕ) (other : Kept) → k < n → slice_get slots k ≡ Some other
+      → IsFor key other → other.stamp ≡ it.stamp → it.slot ≤ other.slot
+
+-- such a place; or there is none
+abbrev pub IsBest : Key → List Kept → ℕ → Option ℕ → Type 0
+IsBest key slots n None =
+    (k : ℕ) (it : Kept) → k < n → slice_get slots k ≡ Some it → IsFor key it → ⊥
+IsBest key slots n (Some place) = (it : Kept) × IsBestAt key slots n place it
+
+-- it has a greater stamp than the one so far, or the same and a lower slot
+abbrev pub is_better : Kept → Kept → Bool
+is_better so_far it =
+    nat_lt so_far.stamp it.stamp || (so_far.stamp == it.stamp && nat_lt it.slot so_far.slot)
+
+-- the slot is open, and its record has this row
+pub record HasRowAt (slot : ℕ) (row : List Value) (bytes : List ℕ) : Type 0 where
+  pub is_open : gate_at slot bytes ≡ OPEN
+  pub its : Record
+  pub spells : spelled record_of_slot slot bytes ≡ Some its
+  pub has : its.row ≡ Some row
+
+-- whether the key has a row: as what is kept of its record says
+abbrev pub ShowsRow : Bool → Key → List Kept → Option ℕ → Type 0
+ShowsRow has key slots None = IsBest key slots (length slots) None × (has ≡ false)
+ShowsRow has key slots (Some place) =
+    (it : Kept) × IsBestAt key slots (length slots) place it × (has ≡ it.has_row)
+
+abbrev pub TellsRow : Bool → Key → List Kept → Type 0
+TellsRow has key slots = (found : Option ℕ) × ShowsRow has key slots found
+
+-- Whether what is kept of a slot is open on the disk and has a key of the range, behind the one
+-- before, that has a row
+abbrev pub IsInReach : Bool → List Kept → Range → Option (List Value) → Kept → Type 0
+IsInReach true slots range after it = (it.gate ≡ Open)
+    × IsTrue (in_range range it.at.table it.at.key)
+    × IsAfter after it.at.key × TellsRow true it.at slots
+IsInReach false slots range after it = (it.gate ≢ Open)
+    ⊎ ((in_range range it.at.table it.at.key ≡ false)
+    ⊎ ((IsAfter after it.at.key → ⊥) ⊎ TellsRow false it.at slots))
+
+-- of the first n, what is kept at this place is in reach, and none that is has a lesser key
+pub record IsNearestAt (slots : List Kept) (range : Range) (after : Option (List Value))
+    (n place : ℕ) (it : Kept) : Type 0 where
+  pub below : place < n
+  pub is_it : slice_get slots place ≡ Some it
+  pub reached : IsInReach true slots range after it
+  pub least : (k : ℕ) (other : Kept) → k < n → slice_get slots k ≡ Some other
+      → IsInReach false slots range after other
+      ⊎ (is_gt (values_cmp it.at.key other.at.key) ≡ false)
+
+-- such a place; or none of them is in reach
+abbrev pub IsNearest : List Kept → Range → Option (List Value) → ℕ → Option ℕ → Type 0
+IsNearest slots range after n None = (k : ℕ) (it : Kept) → k < n → slice_get slots k ≡ Some it
+    → IsInReach false slots range after it
+IsNearest slots range after n (Some place) =
+    (it : Kept) × IsNearestAt slots range after n place it
