@@ -1,0 +1,6 @@
+pub mod Moves
+pub mod Passes
+pub mod Rule
+pub mod Seats
+pub mod Steps
+pub mod Views
