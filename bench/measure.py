@@ -84,6 +84,40 @@ def watched(words, where, script="/dev/null", said="/dev/null"):
     return clock, usage.ru_utime + usage.ru_stime
 
 
+class Player:
+    """A program that is asked line by line: the one that is measured, unless it is named."""
+
+    def __init__(self, where, *words):
+        self.child = subprocess.Popen(words or [PROGRAM, "play"], cwd=where, bufsize=1 << 16,
+                                      stdin=subprocess.PIPE, stdout=subprocess.PIPE)
+
+    def __enter__(self):
+        return self
+
+    def __exit__(self, *_):
+        self.close()
+
+    def expect(self, lines, replies, count=0):
+        """Asks all lines at once, and reads the replies, or so many where they aren't given."""
+        self.child.stdin.write(lines.encode())
+        self.child.stdin.flush()
+        count = count if replies is None else replies.count("\n")
+        said = b"".join(self.child.stdout.readline() for _ in range(count)).decode()
+        if replies is not None and said != replies:
+            sys.exit(f"{lines[:200]!r}: wanted {replies[:200]!r}, got {said[:200]!r}")
+
+    def memory(self, word):
+        """What the system tells of the program's memory under this word, in bytes."""
+        status = Path(f"/proc/{self.child.pid}/status").read_text()
+        found = next(line for line in status.split("\n") if line.startswith(word + ":"))
+        return int(found.split()[1]) * 1024
+
+    def close(self):
+        self.child.stdin.close()
+        self.child.stdout.close()
+        self.child.wait()
+
+
 def opening_memory(where):
     """The greatest memory of a play up to its first reply, in bytes.
 

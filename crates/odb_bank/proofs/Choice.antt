@@ -160,17 +160,17 @@ pub best_begins : (key : Key) (slots : List Kept) → IsBest key slots 0 None
 best_begins key slots k it low is its = omega arith
 
 -- whether something is kept of a slot
-abbrev IsThere : List Kept → ℕ → Type 0
+abbrev pub IsThere : List Kept → ℕ → Type 0
 IsThere slots n = (k : ℕ) × (it : Kept) × (slice_get slots k ≡ Some it) × (it.slot ≡ n)
 
-abbrev IsNone : List Kept → ℕ → Type 0
+abbrev pub IsNone : List Kept → ℕ → Type 0
 IsNone slots n = (k : ℕ) (it : Kept) → slice_get slots k ≡ Some it → it.slot ≢ n
 
 none_more : (x : Kept) (slots : List Kept) (n : ℕ) → x.slot ≢ n → IsNone slots n → IsNone (x ∷ slots) n
 none_more x slots n other none zero it is e = let same : x ≡ it = cc is in other (ap (λ (y : Kept). y.slot) same ∙ e)
 none_more x slots n other none (suc k) it is e = none k it is e
 
-find_slot : (slots : List Kept) (n : ℕ) → IsThere slots n ⊎ IsNone slots n
+pub find_slot : (slots : List Kept) (n : ℕ) → IsThere slots n ⊎ IsNone slots n
 find_slot [] n = inr (λ k it is e. cc is)
 find_slot (x ∷ slots) n = elim (cases_eq x.slot n) [
   | inl here ↦ inl (0, x, refl, here)

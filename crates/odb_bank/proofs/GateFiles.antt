@@ -159,7 +159,12 @@ module _ (b : BankState) (file : ℕ) (sound : IsSound file b) (phase : b.phase 
       let so = stands_so in
       all_opening h b.mark b.reached (IsOneOf b.run) standing.known (noted b.run either standing.known) either (λ r. refl) (λ r. inl refl) so.2 so.1 (becomes either) b.mark standing.low so.0
 
-  module _ (g : File) (end : ℕ) (torn : TornInFrom (GatesOf (IsOneOf b.run)) end (Some f) (Some g)) (slots : List Kept) where
+  pub moment_at : (marked : IsMarked b) (g : File) (end : ℕ) → TornInFrom (GatesOf (IsOneOf b.run)) end (Some f) (Some g) → (image : List ℕ) → IsImage g image → StandsAt b.bank h b.mark image
+  moment_at marked g end torn image at =
+      marked_image b marked h (omega (arith, standing.low, standing.within)) (noted b.run either standing.known) image
+      (doubted_images b file sound phase standing.known f standing.is_known g end torn image at) all_doubted
+
+  module _ (marked : IsMarked b) (g : File) (end : ℕ) (torn : TornInFrom (GatesOf (IsOneOf b.run)) end (Some f) (Some g)) (slots : List Kept) where
     pub stands_doubted : slots ≡ map (with_gate b.run Doubtful) b.slots → IsStandingFor h (with_slots b Bodies slots) g
     stands_doubted same =
         let so = stands_so in
@@ -172,6 +177,7 @@ module _ (b : BankState) (file : ℕ) (sound : IsSound file b) (phase : b.phase 
           low = standing.low;
           within = standing.within;
           stands = (stand, run_later h b.mark b.reached (IsOneOf b.run) known later so.1 so.2 (becomes either), quiet_later h b.mark b.reached (IsOneOf b.run) known later so.1 so.2 (becomes either));
+          images = λ image at. inl (moment_at marked g end torn image at);
         }
 
     pub stands_open : slots ≡ map (with_gate b.run Open) b.slots → EachImage (HaveGates OPEN b.run (length b.run)) (Some g) → IsStandingFor h (with_slots b Gates slots) g
@@ -190,12 +196,8 @@ module _ (b : BankState) (file : ℕ) (sound : IsSound file b) (phase : b.phase 
             all_opened h b.mark b.reached (IsOneOf b.run) known later held (λ r. refl) (λ r. inr refl) so.2 so.1 (becomes held) standing.low quiet so.0,
             quiet,
           );
+          images = λ image at. inl (moment_at marked g end torn image at);
         }
-
-  pub moment_stands : (marked : IsMarked b) (g : File) (end : ℕ) → TornInFrom (GatesOf (IsOneOf b.run)) end (Some f) (Some g) → (image : List ℕ) → IsImage g image → StandsByMark h b image
-  moment_stands marked g end torn image at =
-      inl (marked_image b marked h (omega (arith, standing.low, standing.within)) (noted b.run either standing.known) image
-      (doubted_images b file sound phase standing.known f standing.is_known g end torn image at) all_doubted)
 
 -- of a file that may not be told
 module _ (b : BankState) (file : ℕ) (sound : IsSound file b) (phase : b.phase ≡ Bodies) (end : ℕ) where
@@ -210,22 +212,22 @@ module _ (b : BankState) (file : ℕ) (sound : IsSound file b) (phase : b.phase 
   gates_open p slots (Some f) None same stands torn done = tt
   gates_open p slots (Some f) (Some g) same stands torn done = (noted b.run held stands.0, opened_in b file sound phase stands.0 f stands.1 g end torn p slots (same ∙ again_with b.run b.slots) done)
 
-  pub history_doubts : (h : History) (slots : List Kept) (o now : Option File) → slots ≡ map (with_gate b.run Doubtful) b.slots → StandsFor h b o → TornInFrom (GatesOf (IsOneOf b.run)) end o now
+  pub history_doubts : (marked : IsMarked b) (h : History) (slots : List Kept) (o now : Option File) → slots ≡ map (with_gate b.run Doubtful) b.slots → StandsFor h b o → TornInFrom (GatesOf (IsOneOf b.run)) end o now
       → StandsFor h (with_slots b Bodies slots) now
-  history_doubts h slots None now same stands torn = subst (StandsFor h (with_slots b Bodies slots)) (sym torn) tt
-  history_doubts h slots (Some f) None same stands torn = tt
-  history_doubts h slots (Some f) (Some g) same stands torn = stands_doubted b file sound phase h f stands g end torn slots same
+  history_doubts marked h slots None now same stands torn = subst (StandsFor h (with_slots b Bodies slots)) (sym torn) tt
+  history_doubts marked h slots (Some f) None same stands torn = tt
+  history_doubts marked h slots (Some f) (Some g) same stands torn = stands_doubted b file sound phase h f stands marked g end torn slots same
 
-  pub history_opens : (h : History) (slots : List Kept) (o now : Option File) → slots ≡ map (with_gate b.run Open) (map (with_gate b.run Doubtful) b.slots) → StandsFor h b o → TornInFrom (GatesOf (IsOneOf b.run)) end o now
+  pub history_opens : (marked : IsMarked b) (h : History) (slots : List Kept) (o now : Option File) → slots ≡ map (with_gate b.run Open) (map (with_gate b.run Doubtful) b.slots) → StandsFor h b o → TornInFrom (GatesOf (IsOneOf b.run)) end o now
       → EachImage (HaveGates OPEN b.run (length b.run)) now → StandsFor h (with_slots b Gates slots) now
-  history_opens h slots None now same stands torn done = subst (StandsFor h (with_slots b Gates slots)) (sym torn) tt
-  history_opens h slots (Some f) None same stands torn done = tt
-  history_opens h slots (Some f) (Some g) same stands torn done = stands_open b file sound phase h f stands g end torn slots (same ∙ again_with b.run b.slots) done
+  history_opens marked h slots None now same stands torn done = subst (StandsFor h (with_slots b Gates slots)) (sym torn) tt
+  history_opens marked h slots (Some f) None same stands torn done = tt
+  history_opens marked h slots (Some f) (Some g) same stands torn done = stands_open b file sound phase h f stands marked g end torn slots (same ∙ again_with b.run b.slots) done
 
   pub moments_stand : (marked : IsMarked b) (h : History) (o now : Option File) → StandsFor h b o → TornInFrom (GatesOf (IsOneOf b.run)) end o now → EachImage (StandsByMark h b) now
   moments_stand marked h None now stands torn = subst (EachImage (StandsByMark h b)) (sym torn) tt
   moments_stand marked h (Some f) None stands torn = tt
-  moments_stand marked h (Some f) (Some g) stands torn = moment_stands b file sound phase h f stands marked g end torn
+  moments_stand marked h (Some f) (Some g) stands torn = λ image at. inl (moment_at b file sound phase h f stands marked g end torn image at)
 
   -- at each moment
   pub gates_run : (marked : IsMarked b) (h : History) (at : ℕ) (old new : World) → StandsFor h b (file_of at old) → Runs at (TornInFrom (GatesOf (IsOneOf b.run)) end (file_of at old)) old new → Runs at (EachImage (StandsByMark h b)) old new
@@ -237,30 +239,30 @@ slot_at run gate xs k d low =
     let there = map_at (with_gate run gate) xs k (get_or (map (with_gate run gate) xs) k d) (slice_get-get_or (map (with_gate run gate) xs) k d low) in
     (there.0, there.1, ap (λ (x : Kept). x.slot) there.2 ∙ slot_with run gate there.0)
 
-module _ (file : ℕ) (b : BankState) (sound : IsSound file b) (gate : Gate) where
-  inside_noted : All (λ it. it.slot < slot_limit b) (map (with_gate b.run gate) b.slots)
+module _ (file : ℕ) (b : BankState) (sound : IsSound file b) (run : List ℕ) (gate : Gate) where
+  inside_noted : All (λ it. it.slot < slot_limit b) (map (with_gate run gate) b.slots)
   inside_noted k d low =
-      let there = slot_at b.run gate b.slots k d low in
-      let was : k < length b.slots = omega (arith, low, length-map b.slots (with_gate b.run gate)) in
+      let there = slot_at run gate b.slots k d low in
+      let was : k < length b.slots = omega (arith, low, length-map b.slots (with_gate run gate)) in
       let inside = sound.inside k there.0 was in
       let same = get_or_from_slice_get b.slots k there.0 there.0 there.1 in
       omega (arith, inside, there.2, ap (λ (x : Kept). x.slot) same)
 
-  apart_noted : AllPairs (λ a c. a.slot ≢ c.slot) (map (with_gate b.run gate) b.slots)
+  apart_noted : AllPairs (λ a c. a.slot ≢ c.slot) (map (with_gate run gate) b.slots)
   apart_noted i j d low within e =
-      let long = length-map b.slots (with_gate b.run gate) in
-      let one = slot_at b.run gate b.slots i d (omega arith) in
-      let other = slot_at b.run gate b.slots j d within in
+      let long = length-map b.slots (with_gate run gate) in
+      let one = slot_at run gate b.slots i d (omega arith) in
+      let other = slot_at run gate b.slots j d within in
       let here = get_or_from_slice_get b.slots i one.0 d one.1 in
       let there = get_or_from_slice_get b.slots j other.0 d other.1 in
       let same : (get_or b.slots i d).slot ≡ (get_or b.slots j d).slot = omega (arith, e, one.2, other.2, ap (λ (x : Kept). x.slot) here, ap (λ (x : Kept). x.slot) there) in
       sound.apart i j d low (omega (arith, within, long)) same
 
-  used_noted : (n : ℕ) → IsUsed b.slots n → IsUsed (map (with_gate b.run gate) b.slots) n
-  used_noted n used = (used.0, with_gate b.run gate used.1, at_map (with_gate b.run gate) b.slots used.0 used.1 used.2, slot_with b.run gate used.1 ∙ used.3)
+  used_noted : (n : ℕ) → IsUsed b.slots n → IsUsed (map (with_gate run gate) b.slots) n
+  used_noted n used = (used.0, with_gate run gate used.1, at_map (with_gate run gate) b.slots used.0 used.1 used.2, slot_with run gate used.1 ∙ used.3)
 
-  module _ (p : Phase) (tried : TriesMark b p) (keeps : KeepsRun (with_slots b p (map (with_gate b.run gate) b.slots)) p) where
-    pub sound_by : IsSound file (with_slots b p (map (with_gate b.run gate) b.slots))
+  module _ (p : Phase) (tried : TriesMark b p) (keeps : KeepsRun (with_slots b p (map (with_gate run gate) b.slots)) p) where
+    pub sound_by : IsSound file (with_slots b p (map (with_gate run gate) b.slots))
     sound_by = record {
       number = sound.number;
       most = sound.most;
@@ -275,7 +277,7 @@ module _ (file : ℕ) (b : BankState) (sound : IsSound file b) (gate : Gate) whe
       run_kept = keeps;
     }
       where
-        tries : (q : Phase) → TriesMark b q → TriesMark (with_slots b p (map (with_gate b.run gate) b.slots)) q
+        tries : (q : Phase) → TriesMark b q → TriesMark (with_slots b p (map (with_gate run gate) b.slots)) q
         tries Idle t = t
         tries Bodies t = t
         tries Gates t = t
@@ -303,8 +305,8 @@ module _ (file : ℕ) (b : BankState) (sound : IsSound file b) (phase : b.phase 
 
   pub sound_doubted : (slots : List Kept) → slots ≡ map (with_gate b.run Doubtful) b.slots → IsSound file (with_slots b Bodies slots)
   sound_doubted slots same = subst (λ (l : List Kept). IsSound file (with_slots b Bodies l)) (sym same)
-      (sound_by file b sound Doubtful Bodies tried_so ((λ n one. used_noted file b sound Doubtful n (run_used b file sound phase n one)), (λ k d low e. absurd (no_shut Doubtful (λ f. cc f) k d low e))))
+      (sound_by file b sound b.run Doubtful Bodies tried_so ((λ n one. used_noted file b sound b.run Doubtful n (run_used b file sound phase n one)), (λ k d low e. absurd (no_shut Doubtful (λ f. cc f) k d low e))))
 
   pub sound_open : (slots : List Kept) → slots ≡ map (with_gate b.run Open) (map (with_gate b.run Doubtful) b.slots) → IsSound file (with_slots b Gates slots)
   sound_open slots same = subst (λ (l : List Kept). IsSound file (with_slots b Gates l)) (sym (same ∙ again_with b.run b.slots))
-      (sound_by file b sound Open Gates (inl tried_so) (no_shut Open (λ f. cc f)))
+      (sound_by file b sound b.run Open Gates (inl tried_so) (no_shut Open (λ f. cc f)))

@@ -57,10 +57,10 @@ turned_by to (filled s) r is = let same : s ≡ r = cc is in ap to same
 turned_by to (held s) r is = let same : s ≡ r = cc is in ap to same
 turned_by to (either s) r is = let same : s ≡ r = cc is in ap to same
 
-noted_in : (run : List ℕ) (to : Record → Known) (known : ℕ → Known) (n : ℕ) → is_in run n ≡ true → noted run to known n ≡ turned to (known n)
+pub noted_in : (run : List ℕ) (to : Record → Known) (known : ℕ → Known) (n : ℕ) → is_in run n ≡ true → noted run to known n ≡ turned to (known n)
 noted_in run to known n is = ap (λ (b : Bool). if b then turned to (known n) else known n) is
 
-noted_out : (run : List ℕ) (to : Record → Known) (known : ℕ → Known) (n : ℕ) → is_in run n ≡ false → noted run to known n ≡ known n
+pub noted_out : (run : List ℕ) (to : Record → Known) (known : ℕ → Known) (n : ℕ) → is_in run n ≡ false → noted run to known n ≡ known n
 noted_out run to known n is = ap (λ (b : Bool). if b then turned to (known n) else known n) is
 
 -- each slot of the run has a record behind its gate

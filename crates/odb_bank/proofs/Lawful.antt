@@ -19,9 +19,9 @@ use Rattle.odb_bank.specs.declared.kept.Kept.{Kept}
 use Rattle.odb_bank.specs.Known.{free, held}
 use Rattle.odb_bank.specs.Spelled.{record_from, record_of_slot}
 use Rattle.odb_bank.specs.Bank.{known_by, record_by, IsKnownBy, AreKnownBy}
-use Rattle.odb_bank.specs.Opening.{is_lawful, IsDamagedSlot, AreLawful, IsLeastDamaged}
+use Rattle.odb_bank.specs.Opening.{is_lawful, IsDamagedSlot, AreLawful, IsLeastDamaged, held_or_free, known_at}
 use Rattle.odb_bank.specs.Refusals.{refusal_of}
-use Rattle.odb_bank.specs.Finding.{IsKeptItem, IsItemAnswer, IsSlotChecked, IsDamageBefore, KeepsItems, HasDamagedItem, IsPlaceOfDamage, held_or_free, known_at, AreKeptInside}
+use Rattle.odb_bank.specs.Finding.{IsKeptItem, IsItemAnswer, IsSlotChecked, IsDamageBefore, KeepsItems, HasDamagedItem, IsPlaceOfDamage, AreKeptInside}
 use Rattle.odb_bank.proofs.Items.{at_place}
 
 own : (n : ℕ) (body : List ℕ) (one other : ℕ → List ℕ) → record_of_slot n body other ≡ record_of_slot n body one

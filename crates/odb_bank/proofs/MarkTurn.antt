@@ -1,5 +1,5 @@
 -- What putting the number reached as the mark leaves of the file, and of what it stands for.
-use Rattle.std.proofs.Common.{◌≡◌, ℕ, ◌*◌, ◌^◌, ◌<◌, false, List, Option, Some, None, sym, ◌∙◌, ap, subst, refl, arith}
+use Rattle.std.proofs.Common.{◌≡◌, inl, inr, ℕ, ◌*◌, ◌^◌, ◌<◌, false, List, Option, Some, None, sym, ◌∙◌, ap, subst, refl, arith}
 use Rattle.std.specs.Prelude.{is_some}
 use Rattle.odb_device.specs.World.{File, World, file_of}
 use Rattle.odb_device.specs.Images.{EachImage}
@@ -126,22 +126,26 @@ module _ (b : BankState) (file : ℕ) (sound : IsSound file b) (phase : b.phase 
   raise_done h = done_from h (file_of (file_number b) old) refl
 
   module _ (e : ExtentState) (same : limit_of e ≡ limit_of b.extents) (extents : ExtentStands e (file_of (file_number b) new)) (h : History) where
-    pub raise_over : StandsFor h b (file_of (file_number b) old) → StandsFor h (with_mark b e b.reached Idle) (file_of (file_number b) new)
-    raise_over = history_from b old new (limit_of b.extents) (bank_image b.bank b.reached) runs e same extents b.reached Idle h (file_of (file_number b) old) (file_of (file_number b) new) refl refl
+    pub raise_over : EachImage (StandsAt b.bank h b.reached) (file_of (file_number b) new) → StandsFor h b (file_of (file_number b) old) → StandsFor h (with_mark b e b.reached Idle) (file_of (file_number b) new)
+    raise_over done = history_from b old new (limit_of b.extents) (bank_image b.bank b.reached) runs e same extents b.reached Idle h (file_of (file_number b) old) (file_of (file_number b) new) refl refl
         (λ f g before after standing. let all = so h f standing in record {
           known = standing.known;
           is_known = put_known b old new (limit_of b.extents) (bank_image b.bank b.reached) runs e same extents b.reached Idle standing.known f g before after standing.is_known;
           low = omega arith;
           within = standing.within;
           stands = over h b.reached standing.known all.1 all.2;
+          images = λ image at. let each : EachImage (StandsAt b.bank h b.reached) (Some g) = subst (EachImage (StandsAt b.bank h b.reached)) after done in inl (each image at);
         })
 
-    pub raise_again : StandsFor h b (file_of (file_number b) old) → StandsFor h (with_mark b e b.mark Gates) (file_of (file_number b) new)
-    raise_again = history_from b old new (limit_of b.extents) (bank_image b.bank b.reached) runs e same extents b.mark Gates h (file_of (file_number b) old) (file_of (file_number b) new) refl refl
+    pub raise_again : EachImage (StandsByMark h b) (file_of (file_number b) new) → StandsFor h b (file_of (file_number b) old) → StandsFor h (with_mark b e b.mark Gates) (file_of (file_number b) new)
+    raise_again now = history_from b old new (limit_of b.extents) (bank_image b.bank b.reached) runs e same extents b.mark Gates h (file_of (file_number b) old) (file_of (file_number b) new) refl refl
         (λ f g before after standing. record {
           known = standing.known;
           is_known = put_known b old new (limit_of b.extents) (bank_image b.bank b.reached) runs e same extents b.mark Gates standing.known f g before after standing.is_known;
           low = standing.low;
           within = standing.within;
           stands = so h f standing;
+          images = λ image at.
+              let each : EachImage (StandsByMark h b) (Some g) = subst (EachImage (StandsByMark h b)) after now in
+              elim (each image at) [ inl kept ↦ inl kept | inr raised ↦ inr (refl, raised.1) ];
         })

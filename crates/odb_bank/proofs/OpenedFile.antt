@@ -27,10 +27,10 @@ use Rattle.odb_bank.specs.Known.{Known, either, perhaps, perhaps_of, Fits, IsFil
 use Rattle.odb_bank.specs.Turns.{DoubtsStale}
 use Rattle.odb_bank.specs.Spelled.{record_of_slot}
 use Rattle.odb_bank.specs.Fields.{bank_image}
-use Rattle.odb_bank.specs.Files.{StandsAtMark}
+use Rattle.odb_bank.specs.Files.{StandsAt, StandsAtMark}
 use Rattle.odb_bank.specs.Bank.{BankState, IsBankFile, IsKnownIn, IsStandingFor, Stands, StandsFor, StandsInPhase, IsSound}
-use Rattle.odb_bank.specs.Opening.{HasHead, AreLawful, is_lawful, IsInOrder, IsOpening}
-use Rattle.odb_bank.specs.Finding.{held_or_free, known_at, AreSlotsOf, AreKeptInside, IsSlotsAnswer}
+use Rattle.odb_bank.specs.Opening.{HasHead, AreLawful, is_lawful, IsBankOf, IsOpening, held_or_free, known_at}
+use Rattle.odb_bank.specs.Finding.{AreSlotsOf, AreKeptInside, IsSlotsAnswer}
 use Rattle.odb_bank.proofs.Steps.{stands_same}
 use Rattle.odb_bank.proofs.Marks.{mark_same}
 
@@ -42,6 +42,10 @@ pub opening_run : (file : ℕ) (old mid new : World) → WritesWithin file 0 0 o
 opening_run file old mid new first reads =
     let P : Option File → Type 0 = TornFrom 0 0 (file_of file old) in
     joins file P old mid new first (weakens file (λ f. f ≡ file_of file mid) P mid new (λ o is. subst P (sym is) (run_end file P old mid first)) reads)
+
+-- and what stays of the file
+pub opening_keeps : (file : ℕ) (old mid new : World) → Keeps file old mid → OnlyReads file mid new → Keeps file old new
+opening_keeps file old mid new keeps reads = run_end file (λ f. f ≡ file_of file mid) mid new reads ∙ keeps
 
 -- what is told once all is on the disk was told before
 pub kept_told : (file : ℕ) (old mid : World) (P : List ℕ → Type 0) → Keeps file old mid → IfTold file mid P → IfTold file old P
@@ -157,6 +161,9 @@ module _ (b : BankState) (number : ℕ) (idle : b.phase ≡ Idle) where
           low = omega arith;
           within = omega (arith, its.within);
           stands = subst (λ (p : Phase). StandsInPhase h b p known) (sym idle) (all, doubts);
+          images = λ image is.
+              let same : image ≡ f.bytes = image_kept (kept f) image (refl, refl) is in
+              inl (subst (StandsAt b.bank h b.mark) (sym same) (subst (λ (m : ℕ). StandsAt b.bank h m f.bytes) marks its));
         }
 
     for_now : (o : Option File) → IfSome o (λ f. AreSlotsOf number limit b.slots f.bytes) → ExtentStands b.extents (option_map kept o) → IfSome o (λ f. opened 4096 f.bytes ≡ holding limit (fields_of b.extents))
@@ -170,19 +177,22 @@ module _ (b : BankState) (number : ℕ) (idle : b.phase ≡ Idle) where
         let there : file_of file new ≡ option_map kept (file_of file old) = run_end file (λ f. f ≡ file_of file mid) mid new reads ∙ keeps in
         subst (StandsFor h b) (sym there) (for_now (file_of file old) are (subst (ExtentStands b.extents) keeps stands) holds at)
 
-  -- it is in order
-  in_order : (o : Option File) (mark bank : ℕ) → fields_of b.extents ≡ bank_image bank mark → mark ≤ number → IfSome o (λ f. AreSlotsOf number limit b.slots f.bytes)
-      → IfSome o (λ f. opened 4096 f.bytes ≡ holding limit (fields_of b.extents)) → IfSome o (λ f. IsInOrder bank number limit mark f.bytes)
-  in_order None mark bank fields low are holds = tt
-  in_order (Some f) mark bank fields low are holds = record {
-    head = record { holds = holds ∙ ap (holding limit) fields; not_above = low };
-    long = are.long;
-    slots = are.lawful;
+  -- it is that of its bytes
+  of_bytes : (o : Option File) (bank : ℕ) → fields_of b.extents ≡ bank_image bank b.mark → b.mark ≤ number → IfSome o (λ f. AreSlotsOf number limit b.slots f.bytes)
+      → IfSome o (λ f. opened 4096 f.bytes ≡ holding limit (fields_of b.extents)) → IfSome o (λ f. IsBankOf bank number b f.bytes)
+  of_bytes None bank fields low are holds = tt
+  of_bytes (Some f) bank fields low are holds = record {
+    in_order = record {
+      head = record { holds = holds ∙ ap (holding limit) fields; not_above = low };
+      long = are.long;
+      slots = are.lawful;
+    };
+    known = are.known;
   }
 
-  pub opened_in_order : (file : ℕ) (old : World) (mark bank : ℕ) → fields_of b.extents ≡ bank_image bank mark → mark ≤ number → IfTold file old (AreSlotsOf number limit b.slots)
-      → IfTold file old (λ bytes. opened 4096 bytes ≡ holding limit (fields_of b.extents)) → IfTold file old (IsInOrder bank number limit mark)
-  opened_in_order file old mark bank fields low are holds = in_order (file_of file old) mark bank fields low are holds
+  pub opened_of_bytes : (file : ℕ) (old : World) (bank : ℕ) → fields_of b.extents ≡ bank_image bank b.mark → b.mark ≤ number → IfTold file old (AreSlotsOf number limit b.slots)
+      → IfTold file old (λ bytes. opened 4096 bytes ≡ holding limit (fields_of b.extents)) → IfTold file old (IsBankOf bank number b)
+  opened_of_bytes file old bank fields low are holds = of_bytes (file_of file old) bank fields low are holds
 
 -- it is sound
 pub opened_sound : (file bank mark number : ℕ) (e : ExtentState) (slots : List Kept) → e.pair.file ≡ file → e.most ≡ 4096 → limit_of e ≤ 4096 → fields_of e ≡ bank_image bank mark → IsSettled e → AreKeptInside (1024 * limit_of e) slots

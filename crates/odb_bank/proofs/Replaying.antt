@@ -1,5 +1,5 @@
 -- What the entries leave of a key is what replaying them leaves.
-use Rattle.std.proofs.Common.{◌≡◌, ℕ, zero, suc, ◌<◌, ◌≤◌, Bool, true, false, cond, List, [], ◌∷◌, ◌++◌, length, get_or, take, Option, Some, None, sym, ◌∙◌, ap, subst, refl, arith, add-one}
+use Rattle.std.proofs.Common.{◌≡◌, ℕ, zero, suc, ◌+◌, ◌-◌, ◌<◌, ◌≤◌, Bool, true, false, cond, List, [], ◌∷◌, ◌++◌, length, get_or, take, drop, Option, Some, None, sym, ◌∙◌, ap, subst, refl, arith, add-one}
 use Rattle.std.specs.Prelude.{◌==◌, ◌&&◌, find, slice_get, option_map}
 use Rattle.std.specs.List.{All, AllByRecursion}
 use Rattle.std.specs.List.Sorted.{IsStrictlySortedBy}
@@ -7,16 +7,16 @@ use Rattle.std.specs.Ordering.{is_eq, eq_by_cmp}
 use Rattle.std.specs.declared.cmp.Ordering.TheVariants.{Less}
 use Rattle.std.specs.FinMap.{empty, get, get-empty}
 use Rattle.std.proofs.lemmas.Bool.{and_from, and_right, eq-eqb}
-use Rattle.std.proofs.lemmas.List.{take_more, take_all}
+use Rattle.std.proofs.lemmas.List.{take_more, take_all, get_or-drop, length-drop}
 use Rattle.std.proofs.lemmas.List.Elements.{All-tail}
 use Rattle.std.proofs.lemmas.Map.Keys.{sorted_head, sorted_tail}
 use Rattle.odb_model.specs.declared.entry.Entry.{Entry}
 use Rattle.odb_model.specs.declared.write.Write.{Write}
-use Rattle.odb_model.specs.State.{table_key_cmp, table_key_of, State, changed, after_writes, replay}
+use Rattle.odb_model.specs.State.{table_key_cmp, table_key_of, State, changed, after_writes, replay, replay_from}
 use Rattle.odb_model.specs.Transaction.{table_keys}
 use Rattle.odb_model.proofs.Replay.{get-changed_at, replay_from-append}
 use Rattle.odb_bank.specs.History.{Key, Row, is_key, write_to, write_of, entry_at, history_of, GoesOn}
-use Rattle.odb_bank.specs.Replayed.{after_write, state}
+use Rattle.odb_bank.specs.Replayed.{after_write, state, changed_by}
 use Rattle.odb_bank.specs.Owned.{AreInOrder, IsInBank, HasItsTable}
 use Rattle.odb_bank.proofs.Keys.{key_true, key_same}
 
@@ -111,6 +111,36 @@ module _ (bank : ℕ) (h : List Entry) (key : Key) (ordered : AreInOrder h) (its
 
   pub state_replays : state (history_of bank h) (length h) key ≡ get (replay h) key
   state_replays = replayed (length h) (omega arith) ∙ ap (λ (l : List Entry). get (replay l) key) (take_all (length h) h (omega arith))
+
+-- the entries above a number, over any state
+module _ (bank : ℕ) (h : List Entry) (key : Key) (ordered : AreInOrder h) (its : HasItsTable bank key.table h) (s : State) (a : ℕ) where
+  abbrev Changes : ℕ → Type 0
+  Changes more = changed_by (history_of bank h) a more key (get s key) ≡ get (replay_from s (take more (drop a h))) key
+
+  changed_step : (more : ℕ) → suc (a + more) ≤ length h → (o : Option Entry) → slice_get h (a + more) ≡ o → Changes more → Changes (suc more)
+  changed_step more within None none before = absurd (missing h (a + more) within none)
+  changed_step more within (Some e) is before =
+      let at : get_or h (a + more) e ≡ e = found h (a + more) e is in
+      let behind : get_or (drop a h) more e ≡ e = get_or-drop a h more e ∙ at in
+      let low : more < length (drop a h) = omega (arith, length-drop a h) in
+      let sorted : IsStrictlySortedBy table_key_cmp (table_keys e.writes) = subst (λ (x : Entry). IsStrictlySortedBy table_key_cmp (table_keys x.writes)) at (ordered (a + more) e (omega arith)) in
+      let owned : All (IsInBank bank key.table) e.writes = subst (λ (x : Entry). All (IsInBank bank key.table) x.writes) at (its (a + more) e (omega arith)) in
+      let longer : take (suc more) (drop a h) ≡ take more (drop a h) ++ e ∷ [] =
+      ap (λ (n : ℕ). take n (drop a h)) (sym (add-one more)) ∙ take_more (drop a h) more e low ∙ ap (λ (x : Entry). take more (drop a h) ++ x ∷ []) behind in
+      ap (λ (o : Option Entry). after_write (write_of bank key o) (changed_by (history_of bank h) a more key (get s key))) is
+      ∙ ap (after_write (write_to bank key e.writes)) before
+      ∙ sym (writes_leave bank key (replay_from s (take more (drop a h))) e.writes sorted owned)
+      ∙ sym (ap (λ (t : State). get t key) (replay_from-append s (take more (drop a h)) (e ∷ [])))
+      ∙ sym (ap (λ (l : List Entry). get (replay_from s l) key) longer)
+
+  pub changed_replays : (more : ℕ) → a + more ≤ length h → Changes more
+  changed_replays zero within = refl
+  changed_replays (suc more) within = changed_step more (omega arith) (slice_get h (a + more)) refl (changed_replays more (omega arith))
+
+  pub changed_above : a ≤ length h → changed_by (history_of bank h) a (length h - a) key (get s key) ≡ get (replay_from s (drop a h)) key
+  changed_above low =
+      changed_replays (length h - a) (omega arith)
+      ∙ ap (λ (l : List Entry). get (replay_from s l) key) (take_all (length h - a) (drop a h) (omega (arith, length-drop a h)))
 
 -- one entry more
 same_entry : (h : List Entry) (e : Entry) (k : ℕ) → k < length h → slice_get (h ++ e ∷ []) k ≡ slice_get h k

@@ -82,24 +82,25 @@ StandsInPhase h b Bodies known = Stand h b.mark (sure_of known)
 StandsInPhase h b Gates known =
     AllStand h b.mark known × AllStand h b.reached known × IsQuiet known
 
--- Each image of the file is one of the bank's, and what is known of it stands for the history, as
--- the phase says.
+-- An image stands for the history, complete to the mark that it holds: the one kept, or with the
+-- run's gates open the number reached.
+abbrev pub StandsByMark : History → BankState → List ℕ → Type 0
+StandsByMark h b image = StandsAt b.bank h b.mark image
+    ⊎ ((b.phase ≡ Gates) × StandsAt b.bank h b.reached image)
+
+-- Each image of the file is one of the bank's and stands for the history by the mark that it holds,
+-- and what is known of it stands for the history, as the phase says.
 pub record IsStandingFor (h : History) (b : BankState) (f : File) : Type 0 where
   pub known : ℕ → Known
   pub is_known : IsKnownIn b known f
   pub low : b.mark ≤ b.reached
   pub within : b.reached ≤ h.count
   pub stands : StandsInPhase h b b.phase known
+  pub images : (image : List ℕ) → IsImage f image → StandsByMark h b image
 
 -- it is so, where the file is told
 abbrev pub StandsFor : History → BankState → Option File → Type 0
 StandsFor h b file = IfSome file (IsStandingFor h b)
-
--- An image stands for the history, complete to the mark that it holds: the one kept, or with the
--- run's gates open the number reached.
-abbrev pub StandsByMark : History → BankState → List ℕ → Type 0
-StandsByMark h b image = StandsAt b.bank h b.mark image
-    ⊎ ((b.phase ≡ Gates) × StandsAt b.bank h b.reached image)
 
 -- what a crash may leave besides is the fields kept, or with the run's gates open the mark that it
 -- reaches

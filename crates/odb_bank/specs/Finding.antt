@@ -3,17 +3,15 @@ use Rattle.std.specs.Prelude.{◌≡◌, ◌⊎◌, ℕ, ◌*◌, ◌<◌, ◌�
 use Rattle.std.specs.List.{All, AllPairs}
 use Rattle.odb_extent.specs.Opened.{content_end}
 use Rattle.odb_slots.specs.Slots.{slot_place}
-use Rattle.odb_slots.specs.Views.{view_by}
 use Rattle.odb_slots.specs.declared.item.SlotItem.{SlotItem}
 use Rattle.odb_bank.specs.declared.error.BankError.{BankError}
 use Rattle.odb_bank.specs.declared.error.BankError.TheVariants.{Fault, Damaged, NotNext, Phase as WrongPhase, Limit, NoMemory}
 use Rattle.odb_bank.specs.declared.kept.Gate.TheVariants.{Open}
 use Rattle.odb_bank.specs.declared.kept.Kept.{Kept}
 use Rattle.odb_bank.specs.Records.{Record}
-use Rattle.odb_bank.specs.Known.{Known, free, held}
-use Rattle.odb_bank.specs.Spelled.{record_in, record_of_slot}
+use Rattle.odb_bank.specs.Spelled.{record_in}
 use Rattle.odb_bank.specs.Bank.{AreKnownBy}
-use Rattle.odb_bank.specs.Opening.{is_lawful, IsDamagedSlot, AreLawful, IsLeastDamaged, IsShort, HasDamage}
+use Rattle.odb_bank.specs.Opening.{is_lawful, IsDamagedSlot, AreLawful, IsLeastDamaged, IsShort, HasDamage, known_at}
 
 -- what reading gave
 abbrev pub given : {A : Type 0} → Result A ℕ → Option A
@@ -98,14 +96,6 @@ IsDamageBefore number n (Err Fault) bytes = Unit {0}
 IsDamageBefore number n (Err (NotNext mark first)) bytes = ⊥
 IsDamageBefore number n (Err (WrongPhase now)) bytes = ⊥
 IsDamageBefore number n (Err Limit) bytes = ⊥
-
--- what is known of a slot of a file that is all on the disk
-abbrev pub held_or_free : Option Record → Known
-held_or_free None = free
-held_or_free (Some r) = held r
-
-abbrev pub known_at : ℕ → List ℕ → ℕ → Known
-known_at limit bytes n = held_or_free (view_by record_of_slot limit bytes n)
 
 -- of whatever file: slots inside the limit, ascending, with open gates
 pub record AreKeptInside (limit : ℕ) (slots : List Kept) : Type 0 where

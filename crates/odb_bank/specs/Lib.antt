@@ -18,3 +18,11 @@ pub mod Finding
 pub mod Gates
 pub mod Choosing
 pub mod Refusals
+pub mod Latest
+pub mod LeastAbove
+pub mod Additions
+pub mod Closing
+pub mod Room
+pub mod Filling
+pub mod Growing
+pub mod Begun

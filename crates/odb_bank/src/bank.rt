@@ -51,11 +51,34 @@ impl Model for Bank {
 }
 
 impl Bank {
+    ghost use Rattle.odb_bank.specs.Bank.{file_number};
+
     /// The mark kept: up to which entry the file is complete.
     pub fn mark(&self) -> u64
         ensures { result ≡ self.now.mark }
     {
         self.mark
+    }
+
+    /// The number that the turn reaches whose run stands in the file; between turns the mark.
+    pub fn reached(&self) -> u64
+        ensures { result ≡ self.now.reached }
+    {
+        self.reached
+    }
+
+    /// The number of its databank.
+    pub fn bank(&self) -> u32
+        ensures { result ≡ self.now.bank }
+    {
+        self.bank
+    }
+
+    /// The number of its file.
+    pub fn file(&self) -> u32
+        ensures { result ≡ file_number self.now }
+    {
+        self.file
     }
 
     /// How far the file has come in a turn.

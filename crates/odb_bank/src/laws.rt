@@ -1,8 +1,10 @@
 //! The laws of records and histories, each the contract of a function with nothing to do.
-ghost use Rattle.std.specs.Prelude.{◌≡◌, ℕ, ◌+◌, ◌-◌, ◌≤◌, ◌<◌, List, [], ◌∷◌, ◌++◌, length, Option, Some, None};
+ghost use Rattle.std.specs.Prelude.{◌≡◌, ℕ, ◌+◌, ◌-◌, ◌≤◌, ◌<◌, List, [], ◌∷◌, ◌++◌, length, take, drop, Option, Some, None};
 ghost use Rattle.std.specs.FinMap.{get};
 ghost use Rattle.odb_model.specs.declared.entry.Entry.{Entry};
-ghost use Rattle.odb_model.specs.State.{replay};
+ghost use Rattle.odb_model.specs.State.{State, replay, replay_from};
+ghost use Rattle.odb_device.specs.World.{File};
+ghost use Rattle.odb_device.specs.Images.{IsImage, EachImage};
 ghost use Rattle.odb_slots.specs.Between.{Between};
 ghost use Rattle.odb_bank.specs.History.{Key, Row, History, IsLast, GoesOn, history_of};
 ghost use Rattle.odb_bank.specs.Records.{View, Record, IsWithin, record_of, bank_map, IsRecord};
@@ -11,6 +13,10 @@ ghost use Rattle.odb_bank.specs.Changes.{AddsRun, ClosesStale};
 ghost use Rattle.odb_bank.specs.Replayed.{state, changed_by};
 ghost use Rattle.odb_bank.specs.Run.{run_record, IsRunRecord};
 ghost use Rattle.odb_bank.specs.Owned.{AreInOrder, HasItsTable};
+ghost use Rattle.odb_bank.specs.Files.{StandsAt};
+ghost use Rattle.odb_bank.specs.Bank.{BankState, IsStandingFor, StandsFor, StandsByMark};
+ghost use Rattle.odb_bank.specs.Opening.{IsInOrder};
+ghost use Rattle.odb_bank.specs.Reading.{rows_in};
 
 /// What a turn does keeps a file standing for the history, in each image.
 pub fn keeps_standing()
@@ -76,6 +82,36 @@ pub fn replays_history()
     ensures state { (bank : ℕ) (h : List Entry) (key : Key) → AreInOrder h
         → HasItsTable bank key.table h
         → state (history_of bank h) (length h) key ≡ get (replay h) key }
+    // and from any state on
+    ensures changed { (bank : ℕ) (h : List Entry) (key : Key) (a more : ℕ) (s : State)
+        → AreInOrder h → HasItsTable bank key.table h → a + more ≤ length h
+        → changed_by (history_of bank h) a more key (get s key)
+        ≡ get (replay_from s (take more (drop a h))) key }
+    ensures above { (bank : ℕ) (h : List Entry) (key : Key) (a : ℕ) (s : State)
+        → AreInOrder h → HasItsTable bank key.table h → a ≤ length h
+        → changed_by (history_of bank h) a (length h - a) key (get s key)
+        ≡ get (replay_from s (drop a h)) key }
     ensures longer { (bank : ℕ) (h : List Entry) (e : Entry)
         → GoesOn (history_of bank h) (history_of bank (h ++ e ∷ [])) }
+{}
+
+/// What a file is that stands for a history, also where no call is made on it.
+pub fn keeps_banks()
+    // each image of a bank's file stands by the mark that it holds
+    ensures images { (h : History) (b : BankState) (file : Option File) → StandsFor h b file
+        → EachImage (StandsByMark h b) file }
+    // for a history that goes on, too
+    ensures longer { (h longer : History) (b : BankState) (file : Option File)
+        → GoesOn h longer → StandsFor h b file → StandsFor longer b file }
+    ensures longer_at { (h longer : History) (bank mark : ℕ) (bytes : List ℕ)
+        → GoesOn h longer → StandsAt bank h mark bytes → StandsAt bank longer mark bytes }
+    // it is in order
+    ensures in_order { (h : History) (bank mark number : ℕ) (bytes : List ℕ)
+        → h.count ≤ number → StandsAt bank h mark bytes
+        → (limit : ℕ) × IsInOrder bank number limit mark bytes }
+    // the bank's rows, changed by the entries above its mark, are the state of the whole history
+    ensures rows { (h : History) (b : BankState) (f : File) (image : List ℕ) (key : Key)
+        → (standing : IsStandingFor h b f) → IsImage f image
+        → changed_by h b.mark (h.count - b.mark) key (rows_in b standing.known key)
+        ≡ state h h.count key }
 {}

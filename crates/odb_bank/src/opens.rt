@@ -1,8 +1,8 @@
 //! Opening a databank file, with each check that its bytes are in order.
-ghost use Rattle.std.specs.Prelude.{◌≡◌, ℕ, ◌+◌, ◌*◌, ◌<◌, ◌≤◌, is_some, length, None, Err, IfOk, IfSome};
+ghost use Rattle.std.specs.Prelude.{◌≡◌, ◌≢◌, ℕ, ◌+◌, ◌*◌, ◌<◌, ◌≤◌, is_some, length, None, Err, IfOk, IfSome};
 ghost use Rattle.std.specs.List.{All};
 ghost use Rattle.odb_device.specs.World.{file_of};
-ghost use Rattle.odb_device.specs.Calls.{FileCountRose};
+ghost use Rattle.odb_device.specs.Calls.{FileCountRose, Keeps};
 ghost use Rattle.odb_device.specs.Moments.{WritesWithin};
 ghost use Rattle.odb_device.specs.Told.{IfTold, OnlyReads};
 ghost use Rattle.odb_extent.specs.Opened.{content_end};
@@ -35,7 +35,7 @@ impl Bank {
     /// that is less than its limit says; else at the least open slot that isn't in the slot
     /// grammar, whose key or row is no image of one, or whose stamp isn't from 1 to the number.
     ///
-    /// It writes nothing. It syncs, reads the pair, and reads the slots once, in pieces of 65,536
+    /// It writes nothing, and the file reads as before. It syncs, reads the pair, and reads the slots once, in pieces of 65,536
     /// bytes; where one isn't in the slot grammar, those before it are read again, one by one.
     /// Memory is taken for the records. Fault: a call of the store failed. NoMemory: there is none
     /// for the records.
@@ -49,9 +49,11 @@ impl Bank {
     ) -> Result<Bank, BankError>
         requires { format ≡ 1 }
         ensures run { WritesWithin file 0 0 (S.world store.old) (S.world store.new) }
+        ensures kept { result ≢ Err BankError.Fault
+            → Keeps file (S.world store.old) (S.world store.new) }
         ensures answer { IfTold file (S.world store.old) (IsOpening bank number result) }
         ensures stands { IfOk result (λ b. Stands b (file_of file (S.world store.new))) }
-        ensures found { IfOk result (IsOpened file bank) }
+        ensures found { IfOk result (IsOpened file bank number) }
         ensures history { (h : History) → IfTold file (S.world store.old) (StandsAtMark bank h)
             → IfOk result (λ b. StandsFor h b (file_of file (S.world store.new))) }
         ensures refusal { IsOpenRefusal result }

@@ -110,7 +110,7 @@ impl Bank {
 }
 
 /// Notes this of the gates of these slots.
-fn set_gates(slots: &mut [Kept], run: &[u32], gate: Gate)
+pub(crate) fn set_gates(slots: &mut [Kept], run: &[u32], gate: Gate)
     ensures { slots.new ≡ map (with_gate run.now gate) slots.old }
 {
     for it in slots.iter_mut() {

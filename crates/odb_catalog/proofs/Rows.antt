@@ -1,17 +1,16 @@
 -- How rows of the dictionary are read, value by value.
-use Rattle.std.proofs.Common.{◌≡◌, ℕ, zero, suc, ◌+◌, ◌-◌, ◌<◌, ◌≤◌, ℤ, pos, negsuc, Bool, true, false, ◌&&◌, ◌==◌, cond, nat_le, List, [], ◌∷◌, ◌++◌, map, length, take, drop, get_or, codes, refl, sym, ap, subst, ◌∙◌, Option, Some, None, option_map, arith, if◌then◌else◌, append_assoc}
+use Rattle.std.proofs.Common.{◌≡◌, ℕ, zero, suc, ◌+◌, ◌-◌, ◌<◌, ◌≤◌, pos, true, false, ◌&&◌, nat_le, List, [], ◌∷◌, ◌++◌, map, length, take, drop, get_or, codes, refl, sym, ap, ◌∙◌, Option, Some, None, option_map, arith, if◌then◌else◌, append_assoc}
 use Rattle.std.specs.Option.{option_and_then}
 use Rattle.std.specs.List.{range_with_len, filter_map, cons_option}
 use Rattle.std.specs.FinMap.{get}
 use Rattle.std.proofs.Math.Seq.{take-length}
 use Rattle.std.proofs.lemmas.List.{length-drop}
 use Rattle.odb_values.specs.declared.value.Value.{Value}
-use Rattle.odb_values.specs.declared.value.Value.TheVariants.{Null, Int, Text}
-use Rattle.odb_model.specs.State.{State}
+use Rattle.odb_values.specs.declared.value.Value.TheVariants.{Int, Text}
 use Rattle.odb_model.specs.Table.{Table, IsTable, kv, is_named}
-use Rattle.odb_model.specs.Dictionary.{Described, has_name_form, described, is_number_from, columns_in, are_columns, key_in, table_by, table_in_row, in_dictionary, table_of}
+use Rattle.odb_model.specs.Dictionary.{Described, has_name_form, described, columns_in, key_in, table_by, table_in_row, in_dictionary}
 use Rattle.odb_model.proofs.Keyed.{table_by-is}
-use Rattle.odb_catalog.specs.Rows.{natural, natural_of, column_of, column_by, with_column, is_table, table_from, IsTableOf}
+use Rattle.odb_catalog.specs.Rows.{natural_of, column_by, with_column, is_table, table_from, IsTableOf}
 
 -- four values are those of a column, or none of what they begin counts
 pub columns_step : (a b c d : Value) (rest : List Value) → columns_in (a ∷ b ∷ c ∷ d ∷ rest) ≡ with_column (column_by a (natural_of b) (natural_of c) (natural_of d)) (columns_in rest)

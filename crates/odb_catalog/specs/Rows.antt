@@ -1,5 +1,5 @@
 -- The rows of the dictionary, value by value.
-use Rattle.std.specs.Prelude.{◌≡◌, ℕ, ℤ, pos, negsuc, Bool, ◌&&◌, ◌==◌, length, nat_le, List, [], ◌∷◌, Option, Some, None, option_map, if◌then◌else◌}
+use Rattle.std.specs.Prelude.{◌≡◌, ℕ, ℤ, pos, negsuc, Bool, ◌&&◌, ◌==◌, length, nat_le, List, ◌∷◌, Option, Some, None, option_map, if◌then◌else◌}
 use Rattle.std.specs.Option.{option_and_then}
 use Rattle.std.specs.FinMap.{get}
 use Rattle.odb_values.specs.declared.value.Value.{Value}
@@ -53,3 +53,8 @@ table_from number bank count columns = None
 -- the table of this name, where the dictionary has this row for it
 abbrev pub IsTableOf : List ℕ → Option (List Value) → Option Table → Type 0
 IsTableOf name row t = (s : State) → get s (in_dictionary name) ≡ row → t ≡ table_of s name
+
+-- a number that the dictionary may give
+abbrev pub number_from : Option ℕ → Option ℕ
+number_from None = None
+number_from (Some n) = if is_number_from 16 n then Some n else None

@@ -1,5 +1,5 @@
 //! Names.
-ghost use Rattle.std.specs.Prelude.{◌≡◌};
+ghost use Rattle.std.specs.Prelude.{◌≡◌, codes};
 ghost use Rattle.std.specs.List.{list_all};
 ghost use Rattle.odb_model.specs.Table.{is_named};
 ghost use Rattle.odb_model.specs.Dictionary.{is_capital, is_name_byte, has_name_form};
@@ -11,6 +11,13 @@ pub fn is_named(name: &Text, other: &Text) -> bool
     ensures { result ≡ is_named name.now other.now }
 {
     name.as_bytes() == other.as_bytes()
+}
+
+/// Whether a name is that of the table KV, which is fixed.
+pub(crate) fn is_kv(name: &Text) -> bool
+    ensures { result ≡ is_named name.now (codes "KV") }
+{
+    name.as_bytes() == b"KV".as_slice()
 }
 
 /// Whether a byte is a letter in capitals.

@@ -1,5 +1,6 @@
 //! Numbers in rows of the dictionary.
 ghost use Rattle.std.specs.Prelude.{◌≡◌};
+ghost use Rattle.odb_model.specs.Dictionary.{is_number_from};
 ghost use Rattle.odb_catalog.specs.Rows.{natural, natural_of};
 
 use odb_values::Value;
@@ -22,4 +23,11 @@ pub fn natural_of(value: &Value) -> Option<u64>
         Value::Int(number) => natural(*number),
         Value::Null | Value::Text(_) => None,
     }
+}
+
+/// Whether a number is one of the dictionary: this one at least, and below 2^32.
+pub(crate) fn is_number_from(least: u64, number: u64) -> bool
+    ensures { result ≡ is_number_from least number }
+{
+    least <= number && number < 4294967296
 }

@@ -1,22 +1,17 @@
 //! The table that a row of the dictionary tells of.
 ghost use Rattle.std.specs.Prelude.{◌≡◌, ◌≤◌, map, length, IfOk, IsTrue};
 ghost use Rattle.std.specs.Bool.{OnTrue};
-ghost use Rattle.odb_model.specs.Dictionary.{is_number_from, table_by, table_in_row, dictionary_key, has_name_form};
+ghost use Rattle.odb_model.specs.Dictionary.{table_by, table_in_row, dictionary_key, has_name_form};
 ghost use Rattle.odb_model.specs.Reads.{dictionary_row};
 ghost use Rattle.odb_catalog.specs.Rows.{is_table, table_from, IsTableOf};
 
 use crate::described::{Described, are_columns, key_in, with_columns};
 use crate::name::has_name_form;
-use crate::number::natural_of;
+use crate::number::{is_number_from, natural_of};
+use crate::row::{DICTIONARY, KIND_TABLE, key_values, row_key};
 use crate::{ColumnDef, TableDef};
-use odb_values::{Duplicate, Edge, Frozen, Key, Range, Row, Text, Value, Values};
+use odb_values::{Edge, Frozen, Key, Range, Row, Text, Value};
 use std::alloc::{AllocError, Global};
-
-/// The number of the dictionary's table.
-const DICTIONARY: u32 = 6;
-
-/// The first value of the key of a dictionary's row that tells of a table.
-const KIND_TABLE: i64 = 2;
 
 /// The columns alone.
 fn columns_of(alloc: Global, described: Vec<Described>) -> Result<Vec<ColumnDef>, AllocError>
@@ -27,13 +22,6 @@ fn columns_of(alloc: Global, described: Vec<Described>) -> Result<Vec<ColumnDef>
         columns.push(one.into_column())?;
     }
     Ok(columns)
-}
-
-/// Whether a number is one of the dictionary: this one at least, and below 2^32.
-fn is_number_from(least: u64, number: u64) -> bool
-    ensures { result ≡ is_number_from least number }
-{
-    least <= number && number < 4294967296
 }
 
 /// Whether these numbers and columns are those of a table.
@@ -127,23 +115,12 @@ pub fn table_of(
     }
 }
 
-/// The values of the key of the dictionary's row that tells of a table. The error is want of memory.
-fn key_values(alloc: Global, name: &Text) -> Result<Values, AllocError>
-    ensures { IfOk result (λ values. values ≡ dictionary_key name.now) }
-{
-    let values = vec![in alloc; Value::Int(KIND_TABLE), Value::Text(name.copy(alloc)?)]?;
-    Ok(Frozen::from_vec(values))
-}
-
 /// The key of the dictionary's row that tells of a table, in table 6. The error is want of memory.
 pub fn dictionary_key(alloc: Global, name: &Text) -> Result<Key, AllocError>
     requires { IsTrue (has_name_form name.now) }
     ensures { IfOk result (λ key. key ≡ dictionary_key name.now) }
 {
-    match Key::new(key_values(alloc, name)?) {
-        Ok(key) => Ok(key),
-        Err(_) => unreachable!(),
-    }
+    row_key(alloc, KIND_TABLE, name)
 }
 
 /// The range of that row, which each statement on rows of the table reads. The error is want of
@@ -153,7 +130,7 @@ pub fn dictionary_range(alloc: Global, name: &Text) -> Result<Range, AllocError>
 {
     Ok(Range {
         table: DICTIONARY,
-        prefix: key_values(alloc, name)?,
+        prefix: key_values(alloc, KIND_TABLE, name)?,
         low: Edge::Free,
         high: Edge::Free,
     })

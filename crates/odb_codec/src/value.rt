@@ -1,5 +1,5 @@
 //! Values from the front of some bytes.
-ghost use Rattle.std.specs.Prelude.{◌≡◌, IfOk, if◌then◌else◌};
+ghost use Rattle.std.specs.Prelude.{◌≡◌, ◌≤◌, length, IfOk, if◌then◌else◌};
 ghost use Rattle.odb_codec.specs.Reading.{is_text, text_at, behind_kind, value_at, values_in};
 ghost use Rattle.odb_codec.specs.Reader.{Gives};
 
@@ -71,12 +71,40 @@ fn value_at(alloc: Global, bytes: &[u8]) -> Result<(Value, &[u8]), ReadError>
     }
 }
 
-/// The values that take all of the bytes. It costs one pass, and memory in their number, which is
-/// at most that of the bytes.
+/// How many values the bytes have, where they are whole, else some number of at most the bytes. It
+/// looks at each value's kind and at a text's length alone.
+fn value_count(bytes: &[u8]) -> usize
+    ensures { result ≤ length bytes.now }
+{
+    let mut count = 0;
+    let mut rest = bytes;
+    while let [kind, behind @ ..] = rest {
+        rest = behind
+            .split_at(len_behind(*kind, behind).min(behind.len()))
+            .1;
+        count += 1;
+    }
+    count
+}
+
+/// How many bytes of a value stand behind its kind, where it is whole.
+fn len_behind(kind: u8, bytes: &[u8]) -> usize {
+    match kind {
+        1 => 8,
+        2 => match u16_at(bytes) {
+            Ok((len, _)) => 2 + usize::from(len),
+            Err(_) => 0,
+        },
+        _ => 0,
+    }
+}
+
+/// The values that take all of the bytes. It costs one pass for the places that they want and one
+/// for the values, and memory in their number, which is at most that of the bytes.
 pub(crate) fn values_in(alloc: Global, bytes: &[u8]) -> Result<Values, ReadError>
     ensures { Gives (λ values. values) result (values_in bytes.now) }
 {
-    let mut values = Vec::new(alloc);
+    let mut values = Vec::with_capacity(alloc, value_count(bytes))?;
     let mut rest = bytes;
     while !rest.is_empty() {
         let (value, after) = value_at(alloc, rest)?;

@@ -139,8 +139,11 @@ fn write_at<'a>(
     ))
 }
 
+/// The fewest bytes that the image of a write has: a key of an empty text, which is deleted.
+const LEAST_WRITE: usize = 14;
+
 /// So many writes, each to a place above that of the one before it, and the bytes behind them.
-/// Memory is taken for each write as it is read, and not by the count.
+/// Places are taken for no more of them than the bytes have room for, whatever the count says.
 pub(crate) fn writes_at(
     alloc: Global,
     count: u16,
@@ -148,7 +151,8 @@ pub(crate) fn writes_at(
 ) -> Result<(Writes, &[u8]), ReadError>
     ensures { Gives (λ x. (x.0, x.1.now)) result (writes_at None count bytes.now) }
 {
-    let mut writes = Vec::new(alloc);
+    let places = usize::from(count).min(bytes.len() / LEAST_WRITE);
+    let mut writes = Vec::with_capacity(alloc, places)?;
     let mut rest = bytes;
     for _ in 0..count {
         let (write, after) = write_at(alloc, writes.last(), rest)?;

@@ -1,12 +1,17 @@
 //! What a row works on, and which part of it a line speaks of.
 
-use crate::error::StepError;
 use crate::log::UsableLog;
-use crate::untold::Untold;
-use crate::words::{fewer, number, short, short_number};
 use odb_pair::Pair;
+use odb_row_banks::Banks;
+use odb_row_disks::{StepError, Untold, fewer, number, short, short_number};
 use odb_rowfile::split_word;
 use std::alloc::{AllocError, Global};
+
+/// How much room the store of a row has that doesn't say it: 4 MiB.
+const ROOM: u64 = 1 << 22;
+
+/// How many places for calls it has.
+const CALLS: u32 = 1024;
 
 /// A name that a row gave to bytes.
 #[derive(Drop)]
@@ -22,12 +27,14 @@ struct Mark {
     calls: u32,
 }
 
-/// What a row works on: its store, the pair and the log in memory, and its names.
+/// What a row works on: its store, the pair, the log and the rest in memory, and its names.
 #[derive(Drop)]
 pub(crate) struct Bench {
     pub(crate) store: Untold,
     pub(crate) pair: Option<Pair>,
     pub(crate) log: Option<UsableLog>,
+    /// Extents, a databank file, and the history of which the row tells.
+    pub(crate) banks: Banks,
     pub(crate) payloads: Vec<Payload>,
     marks: Vec<Mark>,
     /// How many things were compared with what a line says.
@@ -35,12 +42,13 @@ pub(crate) struct Bench {
 }
 
 impl Bench {
-    /// An empty store with 8,192 bytes of room for each file, and nothing made on it yet.
+    /// An empty store, and nothing made on it yet.
     pub(crate) fn new(alloc: Global) -> Result<Bench, StepError> {
         Ok(Bench {
-            store: Untold::new(alloc, 8192, 64)?,
+            store: Untold::new(alloc, ROOM, CALLS)?,
             pair: None,
             log: None,
+            banks: Banks::new(alloc),
             payloads: Vec::new(alloc),
             marks: Vec::new(alloc),
             checks: 0,
@@ -57,9 +65,20 @@ impl Bench {
             "payload" | "log" | "add" | "body" | "room" | "next" | "place" | "holds" => {
                 self.use_log(alloc, word, rest)
             }
+            "extents" | "slots" | "bank" => self.use_banks(alloc, word, rest),
+            "entry" => self.banks.enter(alloc, rest),
             "crash" => self.crash(alloc, rest),
             _ => self.count_calls(alloc, word, rest),
         }
+    }
+
+    /// A line about extents, slots or a databank file.
+    fn use_banks(&mut self, alloc: Global, word: &str, rest: &str) -> Result<(), StepError> {
+        let mut got = String::new(alloc);
+        let wanted = self
+            .banks
+            .line(alloc, &mut self.store, &mut got, word, rest)?;
+        self.compare(alloc, wanted, got.as_str())
     }
 
     /// A line about the numbers of calls.

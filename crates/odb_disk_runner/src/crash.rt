@@ -1,11 +1,10 @@
 //! Lines about what a crash leaves.
 
-use crate::bench::{Bench, Payload};
-use crate::error::StepError;
+use crate::bench::Bench;
 use crate::log::found_list;
 use crate::pair::found_by_opening;
-use crate::untold::Untold;
-use crate::words::{hex_of, picks_of, short_number};
+use odb_row_banks::Left;
+use odb_row_disks::{StepError, Untold, hex_of, picks_of, short_number};
 use odb_rowfile::split_word;
 use std::alloc::{AllocError, Global};
 
@@ -15,6 +14,7 @@ enum Found {
     Opens,
     Holds,
     Leaves(u32),
+    Left(Left),
 }
 
 impl Bench {
@@ -70,9 +70,27 @@ impl Bench {
         found: Found,
     ) -> Result<String, StepError> {
         match self.store.crash(alloc, calls, pick)? {
-            Some(left) => Ok(found_in(alloc, left, found, self.payloads.as_slice())?),
+            Some(left) => self.found_in(alloc, left, found),
             None => Err(StepError::Unreadable),
         }
+    }
+
+    /// What is found in what a crash left.
+    fn found_in(&self, alloc: Global, left: Untold, found: Found) -> Result<String, StepError> {
+        let mut left = left;
+        match found {
+            Found::Opens => Ok(found_by_opening(alloc, &mut left)?),
+            Found::Holds => Ok(found_list(alloc, &mut left, self.payloads.as_slice())?),
+            Found::Leaves(file) => Ok(hex_of(alloc, left.file(file))?),
+            Found::Left(what) => self.told_left(alloc, &mut left, what),
+        }
+    }
+
+    /// What is told of extents, slots or a databank file that a crash left.
+    fn told_left(&self, alloc: Global, left: &mut Untold, what: Left) -> Result<String, StepError> {
+        let mut got = String::new(alloc);
+        self.banks.tell_left(alloc, left, &mut got, what)?;
+        Ok(got)
     }
 }
 
@@ -100,24 +118,31 @@ fn read_found(text: &str) -> Result<(&str, Found, &str), StepError> {
     if let Some((picks, wanted)) = text.split_once(" holds ") {
         return Ok((picks, Found::Holds, wanted));
     }
-    let Some((picks, wanted)) = text.split_once(" leaves ") else {
-        return Err(StepError::Unreadable);
-    };
-    let (file, wanted) = split_word(wanted);
-    Ok((picks, Found::Leaves(short_number(file)?), wanted))
+    if let Some((picks, wanted)) = text.split_once(" leaves ") {
+        let (file, wanted) = split_word(wanted);
+        return Ok((picks, Found::Leaves(short_number(file)?), wanted));
+    }
+    let (picks, left, wanted) = read_left(text)?;
+    Ok((picks, Found::Left(left), wanted))
 }
 
-/// What is found in what a crash left.
-fn found_in(
-    alloc: Global,
-    left: Untold,
-    found: Found,
-    names: &[Payload],
-) -> Result<String, AllocError> {
-    let mut left = left;
-    match found {
-        Found::Opens => found_by_opening(alloc, &mut left),
-        Found::Holds => found_list(alloc, &mut left, names),
-        Found::Leaves(file) => hex_of(alloc, left.file(file)),
+/// The picks, what is to be told of extents, slots or a databank file, and what that is.
+fn read_left(text: &str) -> Result<(&str, Left, &str), StepError> {
+    if let Some((picks, wanted)) = text.split_once(" extents ") {
+        return Ok((picks, Left::Extents, wanted));
     }
+    if let Some((picks, wanted)) = text.split_once(" slots ") {
+        return Ok((picks, Left::Slots, wanted));
+    }
+    if let Some((picks, wanted)) = text.split_once(" bank ") {
+        return Ok((picks, Left::Bank, wanted));
+    }
+    if let Some((picks, wanted)) = text.split_once(" stands ") {
+        return Ok((picks, Left::Stands, wanted));
+    }
+    let Some((picks, wanted)) = text.split_once(" rows ") else {
+        return Err(StepError::Unreadable);
+    };
+    let (table, wanted) = split_word(wanted);
+    Ok((picks, Left::Rows(short_number(table)?), wanted))
 }

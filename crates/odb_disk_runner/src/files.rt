@@ -2,15 +2,18 @@
 ghost use Rattle.std.specs.Prelude.{◌≤◌, ◌+◌, ◌^◌, length};
 
 use crate::bench::Bench;
-use crate::error::StepError;
-use crate::untold::Untold;
-use crate::words::{byte_number, byte_of, bytes_of, hex_of, number, short_number};
 use odb_device::{Failed, Store};
+use odb_row_disks::{
+    StepError, Untold, byte_number, byte_of, bytes_of, hex_of, number, short_number,
+};
 use odb_rowfile::split_word;
 use std::alloc::{AllocError, Global};
 
 /// How long a file may be made.
-const LONGEST: u64 = 1 << 20;
+const LONGEST: u64 = 1 << 22;
+
+/// How much room and how many places for calls a store may have.
+const LARGEST: u64 = 1 << 24;
 
 impl Bench {
     /// A line that says what is there before the first call.
@@ -35,7 +38,7 @@ impl Bench {
         let (room, calls) = split_word(rest);
         let room = short_number(room)?;
         let calls = short_number(calls)?;
-        if u64::from(room) > LONGEST || u64::from(calls) > LONGEST {
+        if u64::from(room) > LARGEST || u64::from(calls) > LARGEST {
             return Err(StepError::Unreadable);
         }
         self.store = Untold::new(alloc, u64::from(room), calls)?;

@@ -11,7 +11,7 @@
 //! The store and file 0:
 //!
 //! - `store ROOM CALLS`: a store with so much room and so many places for calls; without it a row
-//!   has 8192 and 64.
+//!   has 4194304 and 1024.
 //! - `fill LENGTH HEX`: file 0 has so many bytes of this one; `at PLACE HEX` puts bytes over them,
 //!   and `cut LENGTH` drops the rest.
 //! - `first GATE NUMBER VALUE`, `second GATE NUMBER VALUE`: a place of a pair: the byte of its
@@ -39,21 +39,21 @@
 //! - `holds NAME ..`: its list, as the definition gives it, as it is read record by record, and as
 //!   it is read at once.
 //!
+//! Extents, slots and databank files in file 0: the lines that begin with `extents`, `slots`,
+//! `bank` and `entry`, which the head of `odb_row_banks` tells.
+//!
 //! A crash: `crash CALLS PICK .. FOUND`. CALLS is a number of calls or a range as `0..6`. A pick
 //! says what the ranges hold that weren't synced, in their order: `old`, `new`, `a5`, or digits
 //! that are said over and over, 0 for what was there, 1 for what was written and 2 for bytes A5;
-//! `*` is `old new a5 210 012`. What is found is `opens FOUND`, `holds NAME ..` or `leaves FILE
-//! HEX`.
+//! `*` is `old new a5 210 012`. What is found is `opens FOUND`, `holds NAME ..`, `leaves FILE HEX`,
+//! or one of `extents FOUND`, `slots FOUND`, `bank FOUND`, `rows TABLE FOUND` and `stands yes`.
 #![tactic(auto)]
 
 mod bench;
 mod crash;
-mod error;
 mod files;
 mod log;
 mod pair;
 mod runner;
-mod untold;
-mod words;
 
 pub use runner::DiskRunner;

@@ -2,10 +2,8 @@
 ghost use Rattle.std.specs.Prelude.{◌≡◌, ◌<◌, ◌≤◌, ◌^◌, true, false, length, IfOk, IfSome, OnOk};
 
 use crate::bench::{Bench, Payload};
-use crate::error::StepError;
-use crate::untold::Untold;
-use crate::words::{bytes_of, hex_of};
 use odb_reclog::{RecError, RecLog, log_of};
+use odb_row_disks::{StepError, Untold, bytes_of, hex_of};
 use odb_rowfile::split_word;
 use odb_values::Bytes;
 use std::alloc::{AllocError, Global};

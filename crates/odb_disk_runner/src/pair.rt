@@ -1,10 +1,8 @@
 //! Lines about a pair in file 0.
 
 use crate::bench::Bench;
-use crate::error::StepError;
-use crate::untold::Untold;
-use crate::words::byte_number;
 use odb_pair::{Pair, PairError, value_of};
+use odb_row_disks::{StepError, Untold, byte_number};
 use odb_rowfile::split_word;
 use std::alloc::{AllocError, Global};
 

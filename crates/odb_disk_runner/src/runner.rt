@@ -1,7 +1,7 @@
 //! The runner of rows over the store in memory.
 
 use crate::bench::Bench;
-use crate::error::StepError;
+use odb_row_disks::StepError;
 use odb_rowfile::{Row, RowRunner, Verdict};
 use std::alloc::{AllocError, Global};
 

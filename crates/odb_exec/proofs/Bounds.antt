@@ -15,7 +15,7 @@ use Rattle.odb_plan.specs.declared.binding.BoundStatement.{BoundStatement}
 use Rattle.odb_plan.specs.Bound.{IsBound, IsWhere, AreSetsOf}
 use Rattle.odb_exec.specs.Walk.{rows_left}
 use Rattle.odb_exec.specs.Told.{told_by}
-use Rattle.odb_exec.proofs.Walks.{Entry}
+use Rattle.odb_rowsource.proofs.Above.{Entry}
 use Rattle.odb_exec.proofs.Keeping.{kept-left}
 use Rattle.odb_exec.proofs.Telling.{told-is}
 

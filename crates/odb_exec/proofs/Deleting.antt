@@ -12,7 +12,7 @@ use Rattle.odb_exec.specs.declared.changes.Changes.{Changes}
 use Rattle.odb_exec.specs.Walk.{rows_left}
 use Rattle.odb_exec.specs.Written.{IsUnwritten}
 use Rattle.odb_exec.specs.Changes.{StandsFor}
-use Rattle.odb_exec.proofs.Walks.{Entry}
+use Rattle.odb_rowsource.proofs.Above.{Entry}
 use Rattle.odb_exec.proofs.Unwritten.{AreOwn, writes-one, row-unwritten, one-each}
 
 module _ (t : Table) (written : List TableKey) where

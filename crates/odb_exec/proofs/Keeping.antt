@@ -17,7 +17,7 @@ use Rattle.odb_rowsource.proofs.Nexts.{in_table}
 use Rattle.odb_eval.specs.declared.filter.Filter.{Filter}
 use Rattle.odb_eval.specs.Bound.{IsWhereOf}
 use Rattle.odb_exec.specs.Walk.{is_kept, rows_left}
-use Rattle.odb_exec.proofs.Walks.{Entry}
+use Rattle.odb_rowsource.proofs.Above.{Entry}
 
 all_of : (es : List Entry) → filter (λ e. true) es ≡ es
 all_of [] = refl

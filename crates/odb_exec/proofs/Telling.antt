@@ -13,7 +13,7 @@ use Rattle.odb_plan.specs.declared.what.BoundWhat.{BoundWhat}
 use Rattle.odb_plan.specs.declared.what.BoundWhat.TheVariants as bound
 use Rattle.odb_plan.specs.Bound.{IsWhatOf}
 use Rattle.odb_exec.specs.Told.{told_by}
-use Rattle.odb_exec.proofs.Walks.{Entry}
+use Rattle.odb_rowsource.proofs.Above.{Entry}
 
 alike : {A B : Type 0} (f g : A → B) → ((x : A) → f x ≡ g x) → (xs : List A) → map f xs ≡ map g xs
 alike f g same [] = refl

@@ -1,5 +1,5 @@
 -- Tuples behind tuples that have been put.
-use Rattle.std.proofs.Common.{◌≡◌, ℕ, suc, Bool, true, false, ◌||◌, List, [], ◌∷◌, ◌++◌, map, length, cond, refl, sym, ap, ◌∙◌, Option, Some, None, is_some}
+use Rattle.std.proofs.Common.{◌≡◌, ℕ, suc, Bool, true, false, ◌||◌, List, [], ◌∷◌, ◌++◌, map, length, cond, refl, sym, ap, subst, ◌∙◌, Option, Some, None, is_some}
 use Rattle.std.specs.Option.{option_or}
 use Rattle.std.specs.List.{flat_map, list_any}
 use Rattle.std.specs.Ordering.{eq_by_cmp, is_eq}
@@ -17,9 +17,10 @@ use Rattle.odb_model.specs.Binding.{refuse_if}
 use Rattle.odb_model.specs.Fitting.{row_refusal}
 use Rattle.odb_model.specs.Meaning.{place_of, put_of, writes_of, with_write, duplicate_refusal, tuples_refusal}
 use Rattle.odb_model.proofs.Replay.{table_key_cmp_total}
-use Rattle.odb_exec.specs.Rows.{is_among, tuple_refusal}
+use Rattle.odb_exec.specs.declared.rows.RowChange.{RowChange}
+use Rattle.odb_exec.specs.Rows.{IsChangeOf, is_among, tuple_refusal}
 use Rattle.odb_exec.specs.Written.{IsUnwritten}
-use Rattle.odb_exec.proofs.Walks.{same_table}
+use Rattle.odb_rowsource.proofs.Above.{same_table}
 
 or_other : (a b c : Bool) → (a || (b || c)) ≡ ((b || a) || c)
 or_other true true c = refl
@@ -139,3 +140,33 @@ or_cond false b = refl
 pub put-among : (k key q : List Value) (b : Bool) → k ≡ key → cond (is_eq (values_cmp k q)) true b ≡ (eq_by_cmp values_cmp q key || b)
 put-among k key q b e =
     ap (λ x. cond (is_eq (values_cmp x q)) true b) e ∙ ap (λ c. cond c true b) ((eq_by_cmp_equiv values_cmp_total).symm key q) ∙ or_cond (eq_by_cmp values_cmp q key) b
+
+-- what refuses a tuple behind others, where nothing or something else refuses it already
+behind_none : (o : Option Reply) (among there : Bool) → option_or o (refuse_if there Duplicate) ≡ None → option_or o (refuse_if (among || there) Duplicate) ≡ refuse_if among Duplicate
+behind_none None true true e = refl
+behind_none None true false e = refl
+behind_none None false true e = e
+behind_none None false false e = refl
+behind_none (Some x) among there e = cc
+
+behind_some : (o : Option Reply) (among there : Bool) (reply : Reply) → option_or o (refuse_if there Duplicate) ≡ Some reply → option_or o (refuse_if (among || there) Duplicate) ≡ Some reply
+behind_some None true true reply e = e
+behind_some None true false reply e = cc
+behind_some None false there reply e = e
+behind_some (Some x) among there reply e = e
+
+module _ (t : Table) (format : ℕ) (s : State) (keys : List (List Value)) (v : List Value) where
+  pub refused-behind : (reply : Reply) → tuple_refusal format t s [] v ≡ Some reply → tuple_refusal format t s keys v ≡ Some reply
+  refused-behind reply e = behind_some (row_refusal format t (key_of t v) v) (is_among keys (key_of t v)) (is_some (get s (place_of t v))) reply e
+
+  pub key-behind : (w : Write) → writes_of t v ≡ w ∷ [] → key_of t v ≡ w.key
+  key-behind w one = let same : put_of t v ≡ w = cc in ap (λ (x : Write). x.key) same
+
+  pub change-behind : (w : Write) (o : RowChange) → tuple_refusal format t s [] v ≡ None → writes_of t v ≡ w ∷ []
+      → IsChangeOf (refuse_if (is_among keys w.key) Duplicate) (w ∷ []) o → IsChangeOf (tuple_refusal format t s keys v) (writes_of t v) o
+  change-behind w o none one change =
+      let refusal : tuple_refusal format t s keys v ≡ refuse_if (is_among keys w.key) Duplicate =
+      behind_none (row_refusal format t (key_of t v) v) (is_among keys (key_of t v)) (is_some (get s (place_of t v))) none
+      ∙ ap (λ (k : List Value). refuse_if (is_among keys k) Duplicate) (key-behind w one) in
+      subst (λ (p : Option Reply). IsChangeOf p (writes_of t v) o) (sym refusal)
+      (subst (λ (ws : List Write). IsChangeOf (refuse_if (is_among keys w.key) Duplicate) ws o) (sym one) change)

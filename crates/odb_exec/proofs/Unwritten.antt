@@ -11,9 +11,10 @@ use Rattle.odb_model.specs.declared.write.Write.{Write}
 use Rattle.odb_model.specs.declared.table_key.TableKey.{TableKey}
 use Rattle.odb_model.specs.State.{State, table_key_cmp, table_key_of, part_in}
 use Rattle.odb_eval.specs.declared.filter.Filter.{Filter}
-use Rattle.odb_exec.specs.Walk.{is_kept, rows_above, rows_left}
+use Rattle.odb_rowsource.specs.RowSource.{rows_above}
+use Rattle.odb_exec.specs.Walk.{is_kept, rows_left}
 use Rattle.odb_exec.specs.Written.{IsUnwritten}
-use Rattle.odb_exec.proofs.Walks.{Entry, IsBefore, IsIn, Ascend, same_table, part-in, part-ascends}
+use Rattle.odb_rowsource.proofs.Above.{Entry, IsBefore, IsIn, Ascend, same_table, part-in, part-ascends}
 
 module _ (P : Entry → Type 0) (p : Entry → Bool) where
   kept_one : (b : Bool) (x : Entry) (xs : List Entry) → P x → AllByRecursion P xs → AllByRecursion P (cond b (x ∷ xs) xs)

@@ -21,7 +21,7 @@ use Rattle.odb_exec.specs.Walk.{rows_left}
 use Rattle.odb_exec.specs.Written.{IsUnwritten}
 use Rattle.odb_exec.specs.Changes.{StandsFor}
 use Rattle.odb_exec.specs.Columns.{columns_after, AreColumnsAfter}
-use Rattle.odb_exec.proofs.Walks.{Entry}
+use Rattle.odb_rowsource.proofs.Above.{Entry}
 use Rattle.odb_exec.proofs.Refusals.{first-passed, first-refused}
 use Rattle.odb_exec.proofs.Unwritten.{AreOwn, writes-one, row-unwritten}
 

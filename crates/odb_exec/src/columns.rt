@@ -51,8 +51,9 @@ pub fn new_columns(
     ensures { IfOk result
         (λ columns. columns ≡ map (new_column table.now assigned.now) (places table.now)) }
 {
-    let mut columns = Vec::new(alloc);
-    for place in 0..table.columns().len() as u32 {
+    let count = table.columns().len();
+    let mut columns = Vec::with_capacity(alloc, count)?;
+    for place in 0..count as u32 {
         columns.push(new_column(table, assigned, place))?;
     }
     Ok(Frozen::from_vec(columns))
@@ -111,7 +112,7 @@ pub fn columns_after(
     ensures { IfOk result
         (λ values. values ≡ columns_after sets.now columns.now key.now row.now) }
 {
-    let mut values = Vec::new(alloc);
+    let mut values = Vec::with_capacity(alloc, columns.len())?;
     for column in columns {
         match column_after(alloc, sets, key, row, column)? {
             Some(value) => values.push(value)?,

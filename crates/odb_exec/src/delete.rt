@@ -10,12 +10,12 @@ ghost use Rattle.odb_exec.specs.Effect.{IsEffectOf};
 use crate::Trouble;
 use crate::changes::Changes;
 use crate::effect::Effect;
-use crate::walk::next_kept;
+use crate::walk::{key_shown, next_kept};
 use odb_catalog::TableDef;
 use odb_eval::Filter;
 use odb_model::Write;
-use odb_rowsource::{Intentions, RowSource};
-use odb_values::{Duplicate, Key, Range};
+use odb_rowsource::{Intentions, RowSource, ShownRow};
+use odb_values::{Duplicate, Range};
 use std::alloc::Global;
 
 /// Deletes the rows of a range that a WHERE keeps. It goes over the range once, and takes memory for
@@ -36,16 +36,16 @@ pub fn delete<R: RowSource>(
     ensures cause { IfErr result (IsCaused (R.faults rows.old) (R.faults rows.new)) }
 {
     let mut changes = Changes::new(alloc, written);
-    let mut last: Option<Key> = None;
-    while let Some(row) = next_kept(rows, alloc, range, filter, last.as_ref())? {
+    let mut last: Option<R::Shown> = None;
+    while let Some(row) = next_kept(rows, alloc, range, filter, key_shown(&last))? {
         let write = Write {
             bank: table.bank(),
             table: range.table,
-            key: row.key.copy(alloc)?,
+            key: row.key().copy(alloc)?,
             row: None,
         };
         changes = changes.with(written, write)?;
-        last = Some(row.key);
+        last = Some(row);
     }
     Ok(changes.into_effect(alloc))
 }

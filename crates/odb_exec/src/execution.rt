@@ -5,8 +5,8 @@ ghost use Rattle.odb_exec.specs.Written.{keys_written};
 ghost use Rattle.odb_exec.specs.Outcome.{IsOutcomeOf, IsCaused, IsOnRows};
 
 use crate::Trouble;
-use crate::named::table_named;
 use crate::on_table::execute_on;
+use odb_catalog::table_named;
 use odb_model::{Outcome, Reply, Statement};
 use odb_rowsource::{Intentions, RowSource};
 use odb_values::{Frozen, Text};

@@ -14,7 +14,6 @@ mod execution;
 mod fitting;
 mod insert;
 mod kept;
-mod named;
 mod on_table;
 mod placing;
 mod reads;

@@ -22,7 +22,7 @@ pub fn key_of(alloc: Global, table: &TableDef, values: &[Value]) -> Result<Value
     ensures key { IfOk result (λ key. key ≡ key_of table.now values.now) }
     ensures table { IsTable table.now }
 {
-    let mut key = Vec::new(alloc);
+    let mut key = Vec::with_capacity(alloc, table.key().len())?;
     for place in table.key() {
         key.push(value_at(alloc, values, *place)?)?;
     }
@@ -52,8 +52,9 @@ fn put_outside(
 pub fn row_of(alloc: Global, table: &TableDef, values: &[Value]) -> Result<Values, AllocError>
     ensures { IfOk result (λ row. row ≡ row_of table.now values.now) }
 {
-    let mut row = Vec::new(alloc);
-    for place in 0..table.columns().len() as u32 {
+    let count = table.columns().len();
+    let mut row = Vec::with_capacity(alloc, count.saturating_sub(table.key().len()))?;
+    for place in 0..count as u32 {
         put_outside(alloc, &mut row, table, values, place)?;
     }
     Ok(Frozen::from_vec(row))

@@ -9,10 +9,10 @@ ghost use Rattle.odb_exec.specs.Walk.{rows_left};
 use crate::Trouble;
 use crate::copying::copied;
 use crate::total::Total;
-use crate::walk::next_kept;
+use crate::walk::{key_shown, next_kept};
 use odb_eval::{Filter, Source};
 use odb_model::ValueRows;
-use odb_rowsource::RowSource;
+use odb_rowsource::{RowSource, ShownRow};
 use odb_values::{Duplicate, Frozen, Key, Range, Row, Value, Values};
 use std::alloc::{AllocError, Global};
 
@@ -23,7 +23,7 @@ fn values_of(alloc: Global, sources: &[Source], key: &Key, row: &Row) -> Result<
 {
     let key = key.as_slice();
     let row = row.as_slice();
-    let mut values = Vec::new(alloc);
+    let mut values = Vec::with_capacity(alloc, sources.len())?;
     for source in sources {
         values.push(copied(alloc, source, key, row)?)?;
     }
@@ -47,10 +47,10 @@ pub fn values_kept<R: RowSource>(
     ensures cause { IfErr result (IsCaused (R.faults rows.old) (R.faults rows.new)) }
 {
     let mut told = Vec::new(alloc);
-    let mut last: Option<Key> = None;
-    while let Some(row) = next_kept(rows, alloc, range, filter, last.as_ref())? {
-        told.push(values_of(alloc, sources, &row.key, &row.row)?)?;
-        last = Some(row.key);
+    let mut last: Option<R::Shown> = None;
+    while let Some(row) = next_kept(rows, alloc, range, filter, key_shown(&last))? {
+        told.push(values_of(alloc, sources, row.key(), row.row())?)?;
+        last = Some(row);
     }
     Ok(Frozen::from_vec(told))
 }
@@ -81,10 +81,10 @@ pub fn count_kept<R: RowSource>(
     ensures cause { IfErr result (IsCaused (R.faults rows.old) (R.faults rows.new)) }
 {
     let mut count = 0i64;
-    let mut last: Option<Key> = None;
-    while let Some(row) = next_kept(rows, alloc, range, filter, last.as_ref())? {
+    let mut last: Option<R::Shown> = None;
+    while let Some(row) = next_kept(rows, alloc, range, filter, key_shown(&last))? {
         count = one_more(count)?;
-        last = Some(row.key);
+        last = Some(row);
     }
     Ok(Value::Int(count))
 }
@@ -106,10 +106,10 @@ pub fn sum_kept<R: RowSource>(
     ensures cause { IfErr result (IsCaused (R.faults rows.old) (R.faults rows.new)) }
 {
     let mut total = Total::none();
-    let mut last: Option<Key> = None;
-    while let Some(row) = next_kept(rows, alloc, range, filter, last.as_ref())? {
-        total = total.with(source.value(row.key.as_slice(), row.row.as_slice()))?;
-        last = Some(row.key);
+    let mut last: Option<R::Shown> = None;
+    while let Some(row) = next_kept(rows, alloc, range, filter, key_shown(&last))? {
+        total = total.with(source.value(row.key().as_slice(), row.row().as_slice()))?;
+        last = Some(row);
     }
     Ok(total.into_value())
 }

@@ -13,13 +13,13 @@ use crate::changes::Changes;
 use crate::columns::{columns_after, new_columns};
 use crate::effect::{Effect, without_writes};
 use crate::rows::{RowChange, row_change};
-use crate::walk::next_kept;
+use crate::walk::{key_shown, next_kept};
 use odb_catalog::TableDef;
 use odb_eval::Filter;
 use odb_model::Assignment;
 use odb_plan::Set;
-use odb_rowsource::{Intentions, RowSource};
-use odb_values::{Key, Range};
+use odb_rowsource::{Intentions, RowSource, ShownRow};
+use odb_values::Range;
 use std::alloc::Global;
 
 /// Sets columns of the rows of a range that a WHERE keeps. It goes over the range once, and takes
@@ -45,14 +45,15 @@ pub fn update<R: RowSource>(
 {
     let columns = new_columns(alloc, table, assigned)?;
     let mut changes = Changes::new(alloc, written);
-    let mut last: Option<Key> = None;
-    while let Some(row) = next_kept(rows, alloc, range, filter, last.as_ref())? {
-        let values = columns_after(alloc, sets, columns.as_slice(), &row.key, &row.row)?;
-        match row_change(alloc, format, table, range.table, &row.key, values)? {
+    let mut last: Option<R::Shown> = None;
+    while let Some(row) = next_kept(rows, alloc, range, filter, key_shown(&last))? {
+        let key = row.key();
+        let values = columns_after(alloc, sets, columns.as_slice(), key, row.row())?;
+        match row_change(alloc, format, table, range.table, key, values)? {
             RowChange::Refused(reply) => return Ok(without_writes(alloc, reply)),
             RowChange::Put(write) => changes = changes.with(written, write)?,
         }
-        last = Some(row.key);
+        last = Some(row);
     }
     Ok(changes.into_effect(alloc))
 }

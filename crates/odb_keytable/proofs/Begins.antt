@@ -1,10 +1,9 @@
 -- The search begins below just those keys of a range that are above the last one.
-use Rattle.std.proofs.Common.{◌≡◌, ℕ, ◌≤◌, Bool, true, false, ◌&&◌, not, cond, List, [], ◌∷◌, ◌++◌, refl, sym, ap, subst, ◌∙◌, arith, Option, None, Some}
+use Rattle.std.proofs.Common.{◌≡◌, ℕ, ◌≤◌, Bool, true, false, ◌&&◌, not, cond, List, [], ◌∷◌, ◌++◌, refl, sym, ap, ◌∙◌, arith, Option, None, Some}
 use Rattle.std.specs.declared.cmp.Ordering.{Ordering}
 use Rattle.std.specs.declared.cmp.Ordering.TheVariants.{Less, Equal, Greater}
-use Rattle.std.specs.declared.ops.Bound.{Bound}
 use Rattle.std.specs.declared.ops.Bound.TheVariants.{Included, Excluded}
-use Rattle.std.specs.Ordering.{nat_cmp, bool_cmp, ordering_then, ordering_reverse, ordering_index, is_lt, is_le, is_eq}
+use Rattle.std.specs.Ordering.{nat_cmp, ordering_then, ordering_reverse, ordering_index, is_lt, is_le, is_eq}
 use Rattle.std.specs.BTreeMap.Range.{is_from_start}
 use Rattle.std.proofs.lemmas.Cmp.{nat_cmp_total}
 use Rattle.odb_values.specs.declared.value.Value.{Value}
@@ -15,12 +14,11 @@ use Rattle.odb_values.specs.Value.{value_cmp, values_cmp}
 use Rattle.odb_values.specs.ValueOrder.{value_cmp_total}
 use Rattle.odb_model.specs.declared.table_key.TableKey.{TableKey}
 use Rattle.odb_model.specs.State.{table_key_cmp}
-use Rattle.odb_rowsource.specs.Stand.{is_free, reaches, stays_under, rest_stand, key_stand, stand, is_behind, is_from}
+use Rattle.odb_rowsource.specs.Stand.{is_free, reaches, stays_under, key_stand, stand, is_behind, is_from}
 use Rattle.odb_model.proofs.Replay.{table_key_cmp_total, table_key_cmp_exact}
 use Rattle.odb_rowsource.proofs.Stands.{stand-up}
-use Rattle.odb_keytable.specs.declared.spot.Spot.{Spot}
-use Rattle.odb_keytable.specs.declared.spot.Spot.TheVariants.{At, Start, Past}
-use Rattle.odb_keytable.specs.Spot.{table_of, values_of, is_past, is_row, spot_at, table_key_at, marked_cmp, spot_cmp}
+use Rattle.odb_keytable.specs.declared.spot.Spot.TheVariants.{At, Start}
+use Rattle.odb_keytable.specs.Spot.{spot_at, marked_cmp, spot_cmp}
 use Rattle.odb_keytable.specs.Begin.{begin_at, begin_of, begin_from}
 
 -- without a mark, spots stand as their values do

@@ -1,7 +1,6 @@
 -- Lists of one entry, and joined lists.
-use Rattle.std.proofs.Common.{◌≡◌, ℕ, ◌+◌, ◌<◌, List, [], ◌∷◌, ◌++◌, length, get_or, cond, refl, ap, sym, subst, ◌∙◌, arith, Bool, true, false, Option, Some, None, Result, Ok, Err}
-use Rattle.std.specs.Prelude.{IsOk, is_ok, IfSome}
-use Rattle.std.specs.Borrow.{Bor}
+use Rattle.std.proofs.Common.{◌≡◌, List, [], ◌∷◌, ◌++◌, length, get_or, cond, refl, ap, ◌∙◌, arith, Result}
+use Rattle.std.specs.Prelude.{IsOk, is_ok}
 use Rattle.odb_model.specs.declared.entry.Entry.{Entry}
 use Rattle.odb_keytable.specs.Pending.{only_entry}
 

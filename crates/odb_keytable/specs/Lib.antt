@@ -4,3 +4,5 @@ pub mod Begin
 pub mod Table
 pub mod Pending
 pub mod Committed
+pub mod Place
+pub mod Rows

@@ -1,5 +1,5 @@
 -- Entries that wait to be folded into a table.
-use Rattle.std.specs.Prelude.{ℕ, List, [], ◌∷◌}
+use Rattle.std.specs.Prelude.{List, [], ◌∷◌}
 use Rattle.odb_model.specs.declared.entry.Entry.{Entry}
 
 -- the entry that a list of one entry holds

@@ -1,5 +1,5 @@
 -- The state that a table stands for.
-use Rattle.std.specs.Prelude.{Bool, ◌&&◌, List, map, IsTrue, Option, None, Some, option_map, if◌then◌else◌}
+use Rattle.std.specs.Prelude.{Bool, ◌&&◌, List, map, IsTrue, Option, None, Some, if◌then◌else◌}
 use Rattle.std.specs.Borrow.{Bor}
 use Rattle.std.specs.List.{list_all}
 use Rattle.std.specs.FinMap.{from_entries}

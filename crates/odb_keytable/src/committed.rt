@@ -82,7 +82,7 @@ impl CommittedRows {
         requires { self.now.waiting ≡ 0 }
         ensures { result.table.now ≡ self.now.state }
     {
-        Rows { table: &self.table }
+        Rows::new(&self.table)
     }
 }
 

@@ -6,16 +6,19 @@ ghost use Rattle.odb_model.specs.State.{changed, table_key_of, after_writes};
 ghost use Rattle.odb_rowsource.specs.RowSource.{row_at, next_in};
 ghost use Rattle.odb_keytable.specs.Spot.{is_row, table_key_at};
 ghost use Rattle.odb_keytable.specs.Table.{lent_row};
+ghost use Rattle.odb_keytable.specs.Place.{IsLeft};
 
 use crate::TableError;
 use crate::begin::begin_from;
 use crate::copying::{compact_key, compact_row};
-use crate::map::{first_behind, insert_row, remove_row, where_inside};
+use crate::map::{entries_behind, insert_row, remove_row};
+use crate::place::step;
 use crate::spot::Spot;
 use odb_model::{Entry, Write};
 use odb_values::{Duplicate, Key, Range, Row};
 use std::alloc::{AllocError, Global};
 use std::collections::BTreeMap;
+use std::collections::btree_map::Range as Entries;
 use std::marker::Model;
 
 /// The rows of a database by table and key: the state after the entries that were folded in.
@@ -130,8 +133,22 @@ impl KeyTable {
         ensures { IfOk result (λ next. option_map lent_row next
             ≡ next_in range.now (option_copied after.entry) self.now) }
     {
+        let rest = self.rows_from(alloc, range, after)?;
+        let (found, _place) = step(rest, range);
+        Ok(found)
+    }
+
+    /// The entries from where the next row of a range may be, in the time of a search. It takes
+    /// memory for one key, whose want is the error.
+    pub(crate) fn rows_from(
+        &self,
+        alloc: Global,
+        range: &Range,
+        after: Option<&Key>,
+    ) -> Result<Entries<'_, Spot, Row>, AllocError>
+        ensures { IfOk result (IsLeft range.now (option_copied after.entry) self.now) }
+    {
         let begin = begin_from(alloc, range, after)?;
-        let first = first_behind(&self.rows, begin);
-        Ok(where_inside(first, range))
+        Ok(entries_behind(&self.rows, begin))
     }
 }

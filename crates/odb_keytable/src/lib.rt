@@ -13,6 +13,7 @@ mod error;
 mod key_table;
 mod map;
 mod pending;
+mod place;
 mod rows;
 mod spot;
 

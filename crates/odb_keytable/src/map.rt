@@ -1,8 +1,8 @@
 //! Rows in a map of spots.
-ghost use Rattle.std.specs.Prelude.{◌≡◌, Option, Some, None, IsTrue, OnOk, OnErr, slice_get, option_map};
-ghost use Rattle.std.specs.List.{find};
+ghost use Rattle.std.specs.Prelude.{◌≡◌, Some, None, IsTrue, OnOk, OnErr, option_map};
 ghost use Rattle.std.specs.BTreeMap.{IsOrdered};
-ghost use Rattle.std.specs.BTreeMap.Range.{is_from_start};
+ghost use Rattle.std.specs.BTreeMap.Range.{entries_between};
+ghost use Rattle.std.specs.declared.ops.Bound.TheVariants.{Unbounded};
 ghost use Rattle.odb_model.specs.State.{changed};
 ghost use Rattle.odb_rowsource.specs.RowSource.{keyed_row};
 ghost use Rattle.odb_keytable.specs.Spot.{is_row, table_key_at, spot_cmp};
@@ -43,23 +43,17 @@ pub(crate) fn remove_row(rows: &mut BTreeMap<Spot, Row>, spot: &Spot)
     rows.remove(spot);
 }
 
-/// The first entry from a bound on, in the time of a search.
-pub(crate) fn first_behind<'a>(
-    rows: &'a BTreeMap<Spot, Row>,
+/// The entries from a bound on, in their order. It takes the time of a search, and each of them is
+/// then reached from the one before.
+pub(crate) fn entries_behind(
+    rows: &BTreeMap<Spot, Row>,
     begin: Bound<Spot>,
-) -> Option<(&'a Spot, &'a Row)>
-    ensures first { option_map lent_entry result
-        ≡ find (λ e. is_from_start spot_cmp begin e.0) rows.now.entries }
+) -> Entries<'_, Spot, Row>
+    ensures entries { result
+        ≡ entries_between spot_cmp begin Unbounded rows.now.entries }
     ensures ordered { IsOrdered spot_cmp rows.now }
 {
-    head(rows.range((begin, Bound::Unbounded)))
-}
-
-/// The first of some entries.
-fn head<'a>(mut entries: Entries<'a, Spot, Row>) -> Option<(&'a Spot, &'a Row)>
-    ensures { option_map lent_entry result ≡ slice_get entries.entry 0 }
-{
-    entries.next()
+    rows.range((begin, Bound::Unbounded))
 }
 
 /// The key and the row of an entry, where it is a row of a range.

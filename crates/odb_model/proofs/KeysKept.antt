@@ -179,7 +179,7 @@ changed_keyed s at None p all =
     (subst (All IsKeyedRow) (sym (entries-retain_keys s (λ q. not (eq_by_cmp table_key_cmp q at)))) (All-filter (λ e. not (eq_by_cmp table_key_cmp e.0 at)) IsKeyedRow (entries s) all))
 changed_keyed s at (Some values) p all = subst (All IsKeyedRow) (sym (entries-insert table_key_cmp_total s at values)) (All-put at values (entries s) p all)
 
-after_keyed : (ws : List Write) (s : State) → HaveKeys ws → HasKeys s → HasKeys (after_writes s ws)
+pub after_keyed : (ws : List Write) (s : State) → HaveKeys ws → HasKeys s → HasKeys (after_writes s ws)
 after_keyed [] s keyed all = all
 after_keyed (w ∷ ws) s keyed all =
     after_keyed ws (changed s (table_key_of w) w.row) (All-tail IsKeyedWrite w ws keyed) (changed_keyed s (table_key_of w) w.row (All-head IsKeyedWrite w ws keyed) all)

@@ -6,6 +6,7 @@ pub mod Keyed
 pub mod Agree
 pub mod Own
 pub mod Meant
+pub mod Refusals
 pub mod Runs
 pub mod Cut
 pub mod Fronts

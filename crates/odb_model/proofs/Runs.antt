@@ -1,6 +1,6 @@
 -- Each transaction that a run commits is serial.
-use Rattle.std.proofs.Common.{◌≡◌, ◌≢◌, ℕ, ◌+◌, ◌-◌, ◌≤◌, Bool, true, false, ◌==◌, cond, List, [], ◌∷◌, ◌++◌, length, take, refl, sym, ap, subst, ◌∙◌, Option, Some, None, arith, length-append, inl, inr}
-use Rattle.std.specs.Prelude.{slice_get, IsSomeAnd}
+use Rattle.std.proofs.Common.{◌≡◌, ◌≢◌, ℕ, ◌+◌, ◌-◌, ◌≤◌, Bool, true, false, ◌==◌, nat_lt, cond, List, [], ◌∷◌, ◌++◌, length, take, refl, sym, ap, subst, ◌∙◌, Option, Some, None, arith, length-append, inl, inr}
+use Rattle.std.specs.Prelude.{◌⊎◌, slice_get, IsSomeAnd}
 use Rattle.std.proofs.lemmas.List.{take-append-le}
 use Rattle.std.proofs.Math.Seq.{take-append_seam, take-length}
 use Rattle.odb_model.specs.declared.write.Write.{Write}
@@ -10,7 +10,7 @@ use Rattle.odb_model.specs.declared.event.Event.TheVariants.{Session as OfSessio
 use Rattle.odb_model.specs.declared.reply.Head.{Head}
 use Rattle.odb_model.specs.declared.reply.Head.TheVariants.{Session as HeadOf}
 use Rattle.odb_model.specs.declared.reply.Reply.{Reply}
-use Rattle.odb_model.specs.declared.reply.Reply.TheVariants.{Okay, Committed, Ended, InDoubt, NotYet, NoTransaction, InTransaction, Halted, Conflict, Full, Fault, Memory}
+use Rattle.odb_model.specs.declared.reply.Reply.TheVariants.{Okay, Committed, Ended, InDoubt, NotYet, NoTransaction, InTransaction, Halted, Aged, Conflict, HistoryFull, Full, Fault, Memory}
 use Rattle.odb_model.specs.declared.statement.Statement.{Statement}
 use Rattle.odb_model.specs.declared.statement.Statement.TheVariants.{Start, Commit, Select, Insert, Rollback, Update, Delete, CreateDatabank, CreateTable, DropTable, CreateShadow, ShadowOnline, ShadowOffline, ShadowMaster, DropShadow, CreateBackup, BackupReady, DropBackup, Restore}
 use Rattle.odb_model.specs.declared.table_key.TableKey.{TableKey}
@@ -21,9 +21,11 @@ use Rattle.odb_model.specs.Meaning.{Meaning, meaning}
 use Rattle.odb_model.specs.Transaction.{Executed, statements_of, table_keys, meaning_over, open_state, open_meaning, open_reply, write_set_with, write_set_from, write_set_of, net, alone, read_at, reads_from, reads_of, conflict}
 use Rattle.odb_model.specs.Session.{Session, Idle, Working}
 use Rattle.odb_model.specs.Sides.{Sides}
-use Rattle.odb_model.specs.Book.{Book, Seen, Verdict, by_doubt, verdict, next_entry, Seals, Decides, ends_transaction}
+use Rattle.odb_model.specs.Window.{window_start, oldest_number}
+use Rattle.odb_model.specs.Definitions.{Planned, Refused, Plans, planned}
+use Rattle.odb_model.specs.Book.{Book, Seen, Verdict, by_conflict, unless_aged, by_doubt, verdict, next_entry, Seals, Decides, DefinesBy, Defines, ends_transaction}
 use Rattle.odb_model.specs.Book as book
-use Rattle.odb_model.specs.Machine.{Machine, first_machine, with_session, book_of, with_book, behind, writes_made, executed_now, Starts, Executes, Commits, RollsBack, Refuses, UpkeepStep, StatementStep, Step}
+use Rattle.odb_model.specs.Machine.{Machine, first_machine, with_session, book_of, with_book, behind, writes_made, executed_now, Starts, Executes, Commits, RollsBack, DefinesIn, Refuses, UpkeepStep, StatementStep, Step}
 use Rattle.odb_model.specs.Serial.{IsSerial, HasOpenReplies, SessionAnsweredFromSnapshots, AnsweredFromSnapshots}
 use Rattle.odb_model.specs.Script.{IsRefused, head_of}
 use Rattle.odb_model.specs.Play.{Answer, IsAnswer, IsRun, IsSerialAt, CommitsSerially, AllSerial}
@@ -87,7 +89,7 @@ session_more : (h g : List Entry) (o : Session) (format : ℕ) → SessionAnswer
 session_more h g Idle format f = tt
 session_more h g (Working t) format f = HasOpenReplies-more h g [] t format f
 
--- the history of a book that COMMIT leaves: as before, or one entry longer
+-- the history of a book that a commit step leaves: as before, or one entry longer
 pub data Grows (b after : Book) : Type 0 where
   stays : after.history ≡ b.history → Grows b after
   grows : (s : ℕ) (writes : List Write) → after.history ≡ b.history ++ next_entry b s writes ∷ [] → Grows b after
@@ -96,7 +98,8 @@ as_before : (b after : Book) → after ≡ b → Grows b after
 as_before b after same = stays (ap (λ (x : Book). x.history) same)
 
 seals_grow : (b : Book) (seen : Seen) (s : ℕ) (writes : List Write) (reply : Reply) (after : Book) → Seals b seen s writes reply after → Grows b after
-seals_grow b seen s writes (Full need room) after seals = as_before b after seals.3
+seals_grow b seen s writes HistoryFull after seals = as_before b after seals.1
+seals_grow b seen s writes (Full need room) after seals = as_before b after seals.4
 seals_grow b seen s writes (Fault f) after seals = as_before b after seals.4
 seals_grow b seen s writes (InDoubt k) after seals = stays (ap (λ (x : Book). x.history) seals.4)
 seals_grow b seen s writes (Committed k) after seals = grows s writes (ap (λ (x : Book). x.history) seals.2)
@@ -104,12 +107,22 @@ seals_grow b seen s writes reply after seals = absurd seals
 
 pub decides_grow : (b : Book) (seen : Seen) (s : ℕ) (v : Verdict) (reply : Reply) (after : Book) → Decides b seen s v reply after → Grows b after
 decides_grow b seen s (book.Halted k) (Halted j) after decides = as_before b after decides.1
+decides_grow b seen s (book.Aged o k) (Aged p j) after decides = as_before b after decides.2
 decides_grow b seen s (book.Conflict k) (Conflict j) after decides = as_before b after decides.1
 decides_grow b seen s (book.Ended k) (Ended p) after decides = as_before b after decides.1
 decides_grow b seen s (book.Writes writes) reply after decides = seals_grow b seen s writes reply after decides
 decides_grow b seen s (book.Halted k) reply after decides = absurd decides
+decides_grow b seen s (book.Aged o k) reply after decides = absurd decides
 decides_grow b seen s (book.Conflict k) reply after decides = absurd decides
 decides_grow b seen s (book.Ended k) reply after decides = absurd decides
+
+defines_grow_by : (d : Option Entry) (b : Book) (seen : Seen) (s : ℕ) (p : Planned) (reply : Reply) (after : Book) → DefinesBy d b seen s p reply after → Grows b after
+defines_grow_by (Some e) b seen s p reply after defines = as_before b after defines.1
+defines_grow_by None b seen s (Refused why) reply after defines = as_before b after defines.1
+defines_grow_by None b seen s (Plans writes) reply after defines = seals_grow b seen s writes reply after defines
+
+pub defines_grow : (b : Book) (seen : Seen) (s : ℕ) (st : Statement) (reply : Reply) (after : Book) → Defines b seen s st reply after → Grows b after
+defines_grow b seen s st reply after defines = defines_grow_by b.in_doubt b seen s (planned st (replay b.history)) reply after defines
 
 answered_by : (m : Machine) (b : Book) (h : List Entry) → b.history ≡ h → IsHistory h → ((q : ℕ) → SessionAnsweredFromSnapshots h (m.sessions q) m.format) → AnsweredFromSnapshots (with_book m b)
 answered_by m b h same numbered sessions = record {
@@ -172,6 +185,13 @@ answered_rolls_back m s (Working t) Okay after f step = moved _ after step (answ
 answered_rolls_back m s Idle reply after f step = absurd step
 answered_rolls_back m s (Working t) reply after f step = absurd step
 
+answered_defines : (m : Machine) (s : ℕ) (seen : Seen) (st : Statement) (o : Session) (reply : Reply) (after : Machine) → AnsweredFromSnapshots m → DefinesIn m s seen st o reply after → AnsweredFromSnapshots after
+answered_defines m s seen st Idle Memory after f step = moved m after step f
+answered_defines m s seen st (Working t) Memory after f step = moved m after step f
+answered_defines m s seen st (Working t) InTransaction after f step = moved m after step f
+answered_defines m s seen st (Working t) reply after f step = absurd step
+answered_defines m s seen st Idle reply after f step = moved _ after step.2 (answered_book m step.0 (defines_grow (book_of m) seen s st reply step.0 step.1) f)
+
 answered_refuses : (m : Machine) (reply : Reply) (after : Machine) → AnsweredFromSnapshots m → Refuses m reply after → AnsweredFromSnapshots after
 answered_refuses m NotYet after f step = moved m after step f
 answered_refuses m Memory after f step = moved m after step f
@@ -186,8 +206,8 @@ answered_runs m s seen Rollback reply after f step = answered_rolls_back m s (m.
 answered_runs m s seen (Update table sets w) reply after f step = answered_executes m s (Update table sets w) (m.sessions s) reply after refl f step
 answered_runs m s seen (Delete table w) reply after f step = answered_executes m s (Delete table w) (m.sessions s) reply after refl f step
 answered_runs m s seen (CreateDatabank name) reply after f step = answered_refuses m reply after f step
-answered_runs m s seen (CreateTable name columns key bank) reply after f step = answered_refuses m reply after f step
-answered_runs m s seen (DropTable name) reply after f step = answered_refuses m reply after f step
+answered_runs m s seen (CreateTable name columns key bank) reply after f step = answered_defines m s seen (CreateTable name columns key bank) (m.sessions s) reply after f step
+answered_runs m s seen (DropTable name) reply after f step = answered_defines m s seen (DropTable name) (m.sessions s) reply after f step
 answered_runs m s seen (CreateShadow name bank) reply after f step = answered_refuses m reply after f step
 answered_runs m s seen (ShadowOnline name) reply after f step = answered_refuses m reply after f step
 answered_runs m s seen (ShadowOffline name) reply after f step = answered_refuses m reply after f step
@@ -242,21 +262,51 @@ commits_at m s o (Committed k) after = IsSerialAt o (k - 1) after.history m.form
 commits_at m s o (Ended p) after = IsSerialAt o p after.history m.format
 commits_at m s o reply after = Unit {0}
 
+-- a verdict of AGED is answered so and changes nothing; any other is as if no age were asked
+pub unless_aged-or : (b : Book) (seen : Seen) (s : ℕ) (oldest : Option ℕ) (start : ℕ) (v : Verdict) (reply : Reply) (after : Book) → Decides b seen s (unless_aged oldest start v) reply after
+    → Decides b seen s v reply after ⊎ ((o : ℕ) × (k : ℕ) × (reply ≡ Aged o k) × (after ≡ b))
+unless_aged-or b seen s None start v reply after decides = inl decides
+unless_aged-or b seen s (Some o) start v reply after decides =
+    elim (nat_lt o start) as (λ (c : Bool). Decides b seen s (cond c (book.Aged o start) v) reply after → Decides b seen s v reply after ⊎ ((o : ℕ) × (k : ℕ) × (reply ≡ Aged o k) × (after ≡ b))) [
+      | true ↦ λ aged. inr (aged_only reply aged)
+      | false ↦ λ other. inl other
+    ] decides
+  where
+    aged_only : (r : Reply) → Decides b seen s (book.Aged o start) r after → (p : ℕ) × (k : ℕ) × (r ≡ Aged p k) × (after ≡ b)
+    aged_only (Aged p k) d = (p, k, refl, d.2)
+    aged_only r d = absurd d
+
 module _ (m : Machine) (s : ℕ) (seen : Seen) (t : List Executed) (e : m.sessions s ≡ Working t) (f : AnsweredFromSnapshots m) where
-  committed : (d : Option Entry) (later : Option ℕ) (ws : List Write) (k : ℕ) (b : Book) → conflict m.history t m.format ≡ later → net_now m t ≡ ws
-      → Decides (book_of m) seen s (by_doubt d later (length m.history) ws) (Committed k) b → IsSerial t (k - 1) b.history m.format
-  committed (Some x) later ws k b found leaves decides = absurd decides
-  committed None (Some j) ws k b found leaves decides = absurd decides
-  committed None None [] k b found leaves decides = absurd decides
-  committed None None (w ∷ ws) k b found leaves decides =
+  committed : (later : Option ℕ) (ws : List Write) (k : ℕ) (b : Book) → conflict m.history t m.format ≡ later → net_now m t ≡ ws
+      → Decides (book_of m) seen s (by_conflict later (length m.history) ws) (Committed k) b → IsSerial t (k - 1) b.history m.format
+  committed (Some j) ws k b found leaves decides = absurd decides
+  committed None [] k b found leaves decides = absurd decides
+  committed None (w ∷ ws) k b found leaves decides =
       serial_committed m s t (w ∷ ws) k b.history (alone_now m s t e f found) leaves decides.1 (ap (λ (x : Book). x.history) decides.2)
 
-  ended : (d : Option Entry) (later : Option ℕ) (ws : List Write) (p : ℕ) (b : Book) → conflict m.history t m.format ≡ later → net_now m t ≡ ws
-      → Decides (book_of m) seen s (by_doubt d later (length m.history) ws) (Ended p) b → IsSerial t p b.history m.format
-  ended (Some x) later ws p b found leaves decides = absurd decides
-  ended None (Some j) ws p b found leaves decides = absurd decides
-  ended None None [] p b found leaves decides = serial_ended m t p b.history (alone_now m s t e f found) leaves decides.0 (ap (λ (x : Book). x.history) decides.1)
-  ended None None (w ∷ ws) p b found leaves decides = absurd decides
+  ended : (later : Option ℕ) (ws : List Write) (p : ℕ) (b : Book) → conflict m.history t m.format ≡ later → net_now m t ≡ ws
+      → Decides (book_of m) seen s (by_conflict later (length m.history) ws) (Ended p) b → IsSerial t p b.history m.format
+  ended (Some j) ws p b found leaves decides = absurd decides
+  ended None [] p b found leaves decides = serial_ended m t p b.history (alone_now m s t e f found) leaves decides.0 (ap (λ (x : Book). x.history) decides.1)
+  ended None (w ∷ ws) p b found leaves decides = absurd decides
+
+  -- the reads, and the rest of the verdict
+  abbrev rest : Verdict
+  rest = by_conflict (conflict m.history t m.format) (length m.history) (net_now m t)
+
+  committed_by : (d : Option Entry) (oldest : Option ℕ) (start k : ℕ) (b : Book) → Decides (book_of m) seen s (by_doubt d (unless_aged oldest start rest)) (Committed k) b → IsSerial t (k - 1) b.history m.format
+  committed_by (Some x) oldest start k b decides = absurd decides
+  committed_by None oldest start k b decides = elim (unless_aged-or (book_of m) seen s oldest start rest (Committed k) b decides) as (λ w. IsSerial t (k - 1) b.history m.format) [
+    | inl judged ↦ committed (conflict m.history t m.format) (net_now m t) k b refl refl judged
+    | inr aged ↦ let no : Committed k ≡ Aged aged.0 aged.1 = aged.2 in cc
+  ]
+
+  ended_by : (d : Option Entry) (oldest : Option ℕ) (start p : ℕ) (b : Book) → Decides (book_of m) seen s (by_doubt d (unless_aged oldest start rest)) (Ended p) b → IsSerial t p b.history m.format
+  ended_by (Some x) oldest start p b decides = absurd decides
+  ended_by None oldest start p b decides = elim (unless_aged-or (book_of m) seen s oldest start rest (Ended p) b decides) as (λ w. IsSerial t p b.history m.format) [
+    | inl judged ↦ ended (conflict m.history t m.format) (net_now m t) p b refl refl judged
+    | inr aged ↦ let no : Ended p ≡ Aged aged.0 aged.1 = aged.2 in cc
+  ]
 
 serial_commits : (m : Machine) (s : ℕ) (seen : Seen) (o : Session) (reply : Reply) (after : Machine) → m.sessions s ≡ o → AnsweredFromSnapshots m → Commits m s seen o reply after → commits_at m s o reply after
 unfolding commits_at
@@ -265,10 +315,10 @@ serial_commits m s seen Idle (Ended p) after e f step = absurd step
 serial_commits m s seen Idle reply after e f step = tt
 serial_commits m s seen (Working t) (Committed k) after e f step =
     subst (λ (x : Machine). IsSerial t (k - 1) x.history m.format) (sym step.2)
-    (committed m s seen t e f m.in_doubt (conflict m.history t m.format) (net_now m t) k step.0 refl refl step.1)
+    (committed_by m s seen t e f m.in_doubt (oldest_number (reads_of m.history t m.format)) (window_start m.history) k step.0 step.1)
 serial_commits m s seen (Working t) (Ended p) after e f step =
     subst (λ (x : Machine). IsSerial t p x.history m.format) (sym step.2)
-    (ended m s seen t e f m.in_doubt (conflict m.history t m.format) (net_now m t) p step.0 refl refl step.1)
+    (ended_by m s seen t e f m.in_doubt (oldest_number (reads_of m.history t m.format)) (window_start m.history) p step.0 step.1)
 serial_commits m s seen (Working t) reply after e f step = tt
 
 serial_starts : (m : Machine) (s : ℕ) (o : Session) (reply : Reply) (after : Machine) → Starts m s o reply after → commits_at m s o reply after
@@ -298,6 +348,15 @@ serial_rolls_back m s (Working t) (Committed k) after step = absurd step
 serial_rolls_back m s (Working t) (Ended p) after step = absurd step
 serial_rolls_back m s o reply after step = tt
 
+-- a definition is no transaction's commit
+serial_defines : (m : Machine) (s : ℕ) (seen : Seen) (st : Statement) (o : Session) (reply : Reply) (after : Machine) → DefinesIn m s seen st o reply after → commits_at m s o reply after
+unfolding commits_at
+serial_defines m s seen st Idle (Committed k) after step = tt
+serial_defines m s seen st Idle (Ended p) after step = tt
+serial_defines m s seen st (Working t) (Committed k) after step = absurd step
+serial_defines m s seen st (Working t) (Ended p) after step = absurd step
+serial_defines m s seen st o reply after step = tt
+
 serial_refuses : (m : Machine) (s : ℕ) (o : Session) (reply : Reply) (after : Machine) → Refuses m reply after → commits_at m s o reply after
 unfolding commits_at
 serial_refuses m s o (Committed k) after step = absurd step
@@ -313,8 +372,8 @@ serial_runs m s seen Rollback reply after f step = serial_rolls_back m s (m.sess
 serial_runs m s seen (Update table sets w) reply after f step = serial_executes m s (Update table sets w) (m.sessions s) reply after step
 serial_runs m s seen (Delete table w) reply after f step = serial_executes m s (Delete table w) (m.sessions s) reply after step
 serial_runs m s seen (CreateDatabank name) reply after f step = serial_refuses m s (m.sessions s) reply after step
-serial_runs m s seen (CreateTable name columns key bank) reply after f step = serial_refuses m s (m.sessions s) reply after step
-serial_runs m s seen (DropTable name) reply after f step = serial_refuses m s (m.sessions s) reply after step
+serial_runs m s seen (CreateTable name columns key bank) reply after f step = serial_defines m s seen (CreateTable name columns key bank) (m.sessions s) reply after step
+serial_runs m s seen (DropTable name) reply after f step = serial_defines m s seen (DropTable name) (m.sessions s) reply after step
 serial_runs m s seen (CreateShadow name bank) reply after f step = serial_refuses m s (m.sessions s) reply after step
 serial_runs m s seen (ShadowOnline name) reply after f step = serial_refuses m s (m.sessions s) reply after step
 serial_runs m s seen (ShadowOffline name) reply after f step = serial_refuses m s (m.sessions s) reply after step

@@ -7,7 +7,7 @@ use Rattle.std.proofs.lemmas.List.Elements.{Contains-append_left, Contains-appen
 use Rattle.odb_model.specs.declared.reply.Head.{Head}
 use Rattle.odb_model.specs.declared.reply.Head.TheVariants.{Session, Control, Unknown}
 use Rattle.odb_model.specs.declared.reply.Reply.{Reply}
-use Rattle.odb_model.specs.declared.reply.Reply.TheVariants.{Okay, Rows, Done, Committed, Ended, InDoubt, Character, Text, Number, Syntax, End, Long, Line, NoSession, NotYet, NoTransaction, InTransaction, NoTable, NoColumn, KindMismatch, KeyColumn, ColumnCount, Duplicate, NullNotAllowed, TooLong, KeyTooWide, RowTooWide, TooManyWrites, Overflow, Halted, Conflict, Full, Fault, Memory}
+use Rattle.odb_model.specs.declared.reply.Reply.TheVariants.{Okay, Rows, Done, Committed, Ended, InDoubt, Character, Text, Number, Syntax, End, Long, Line, NoSession, NotYet, NoTransaction, InTransaction, NoTable, NoBank, NameTaken, NotEmpty, NoNumberLeft, Fixed, NoColumn, KindMismatch, KeyColumn, ColumnCount, Duplicate, NullNotAllowed, TooLong, KeyTooWide, RowTooWide, TooManyWrites, Overflow, Halted, Aged, Conflict, HistoryFull, Full, Fault, Memory}
 use Rattle.odb_model.specs.Print.{head_text, line_of, row_line, reply_text}
 use Rattle.odb_model.specs.Script.{open_line}
 use Rattle.odb_model.specs.Acknowledged.{Acknowledges}
@@ -101,6 +101,11 @@ reply-ended head NotYet = line-ended head (codes "REFUSED NOTYET")
 reply-ended head NoTransaction = line-ended head (codes "REFUSED NOTRANSACTION")
 reply-ended head InTransaction = line-ended head (codes "REFUSED INTRANSACTION")
 reply-ended head NoTable = line-ended head (codes "REFUSED NOTABLE")
+reply-ended head NoBank = line-ended head (codes "REFUSED NOBANK")
+reply-ended head NameTaken = line-ended head (codes "REFUSED NAMETAKEN")
+reply-ended head NotEmpty = line-ended head (codes "REFUSED NOTEMPTY")
+reply-ended head NoNumberLeft = line-ended head (codes "REFUSED NONUMBERLEFT")
+reply-ended head Fixed = line-ended head (codes "REFUSED FIXED")
 reply-ended head NoColumn = line-ended head (codes "REFUSED NOCOLUMN")
 reply-ended head KindMismatch = line-ended head (codes "REFUSED KINDMISMATCH")
 reply-ended head KeyColumn = line-ended head (codes "REFUSED KEYCOLUMN")
@@ -113,6 +118,8 @@ reply-ended head RowTooWide = line-ended head (codes "REFUSED ROWTOOWIDE")
 reply-ended head TooManyWrites = line-ended head (codes "REFUSED TOOMANYWRITES")
 reply-ended head Overflow = line-ended head (codes "REFUSED OVERFLOW")
 reply-ended head (Halted k) = line-ended head (codes "REFUSED HALTED " ++ decimal k)
+reply-ended head (Aged oldest start) = line-ended head (codes "REFUSED AGED " ++ decimal oldest ++ codes " " ++ decimal start)
+reply-ended head HistoryFull = line-ended head (codes "REFUSED HISTORYFULL")
 reply-ended head (Conflict j) = line-ended head (codes "REFUSED CONFLICT " ++ decimal j)
 reply-ended head (Full need room) = line-ended head (codes "REFUSED FULL " ++ decimal need ++ codes " " ++ decimal room)
 reply-ended head (Fault f) = line-ended head (codes "REFUSED FAULT " ++ decimal f)

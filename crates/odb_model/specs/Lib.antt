@@ -25,6 +25,9 @@ pub mod Intentions
 pub mod Storable
 pub mod Session
 pub mod Sides
+pub mod Window
+pub mod Databanks
+pub mod Definitions
 pub mod Book
 pub mod Machine
 pub mod Serial

@@ -8,11 +8,11 @@ use Rattle.odb_model.specs.declared.event.Event.TheVariants.{Session as OfSessio
 use Rattle.odb_model.specs.declared.reply.Reply.{Reply}
 use Rattle.odb_model.specs.declared.reply.Reply.TheVariants.{Okay, NotYet, NoTransaction, InTransaction, Memory}
 use Rattle.odb_model.specs.declared.statement.Statement.{Statement}
-use Rattle.odb_model.specs.declared.statement.Statement.TheVariants.{Start, Commit, Rollback, Select, Insert, Update, Delete}
+use Rattle.odb_model.specs.declared.statement.Statement.TheVariants.{Start, Commit, Rollback, Select, Insert, Update, Delete, CreateTable, DropTable}
 use Rattle.odb_model.specs.Transaction.{Executed, open_reply, write_set_of}
 use Rattle.odb_model.specs.Session.{Session, Idle, Working}
 use Rattle.odb_model.specs.Sides.{Sides}
-use Rattle.odb_model.specs.Book.{Book, Seen, verdict, Decides, ends_transaction}
+use Rattle.odb_model.specs.Book.{Book, Seen, verdict, Decides, Defines, ends_transaction}
 
 -- An entry is in doubt where it isn't known whether its record is on the disk. The format is the
 -- database's, 1 or 2; no step changes it
@@ -100,7 +100,16 @@ RollsBack m s Idle reply after = ⊥
 RollsBack m s (Working t) Okay after = after ≡ with_session m s Idle
 RollsBack m s (Working t) reply after = ⊥
 
--- a definition, none of which is built
+-- A definition that is built, CREATE TABLE or DROP TABLE, which is one commit step. In a transaction it is
+-- refused before all else; no session changes
+abbrev pub DefinesIn : Machine → ℕ → Seen → Statement → Session → Reply → Machine → Type 0
+DefinesIn m s seen st session Memory after = after ≡ m
+DefinesIn m s seen st (Working t) InTransaction after = after ≡ m
+DefinesIn m s seen st (Working t) reply after = ⊥
+DefinesIn m s seen st Idle reply after =
+    (b : Book) × Defines (book_of m) seen s st reply b × (after ≡ with_book m b)
+
+-- a definition that isn't built: it is refused by its form alone, whatever the session is in
 abbrev pub Refuses : Machine → Reply → Machine → Type 0
 Refuses m NotYet after = after ≡ m
 Refuses m Memory after = after ≡ m
@@ -119,6 +128,10 @@ StatementStep m s seen (Update table sets filter) reply after =
     Executes m s (Update table sets filter) (m.sessions s) reply after
 StatementStep m s seen (Delete table filter) reply after =
     Executes m s (Delete table filter) (m.sessions s) reply after
+StatementStep m s seen (CreateTable name columns key bank) reply after =
+    DefinesIn m s seen (CreateTable name columns key bank) (m.sessions s) reply after
+StatementStep m s seen (DropTable name) reply after =
+    DefinesIn m s seen (DropTable name) (m.sessions s) reply after
 StatementStep m s seen other reply after = Refuses m reply after
 
 -- a step of upkeep, none of which is built

@@ -6,7 +6,7 @@ use Rattle.odb_model.specs.declared.numbers.TheConstants.{LF}
 use Rattle.odb_model.specs.declared.reply.Head.{Head}
 use Rattle.odb_model.specs.declared.reply.Head.TheVariants.{Session, Control, Unknown}
 use Rattle.odb_model.specs.declared.reply.Reply.{Reply}
-use Rattle.odb_model.specs.declared.reply.Reply.TheVariants.{Okay, Rows, Done, Committed, Ended, InDoubt, Character, Text as TextReply, Number, Syntax, End, Long, Line, NoSession, NotYet, NoTransaction, InTransaction, NoTable, NoColumn, KindMismatch, KeyColumn, ColumnCount, Duplicate, NullNotAllowed, TooLong, KeyTooWide, RowTooWide, TooManyWrites, Overflow, Halted, Conflict, Full, Fault, Memory}
+use Rattle.odb_model.specs.declared.reply.Reply.TheVariants.{Okay, Rows, Done, Committed, Ended, InDoubt, Character, Text as TextReply, Number, Syntax, End, Long, Line, NoSession, NotYet, NoTransaction, InTransaction, NoTable, NoBank, NameTaken, NotEmpty, NoNumberLeft, Fixed, NoColumn, KindMismatch, KeyColumn, ColumnCount, Duplicate, NullNotAllowed, TooLong, KeyTooWide, RowTooWide, TooManyWrites, Overflow, Halted, Aged, Conflict, HistoryFull, Full, Fault, Memory}
 use Rattle.odb_model.specs.Canonical.{value_text}
 
 abbrev pub head_text : Head → List ℕ
@@ -51,6 +51,11 @@ reply_text head NotYet = refused_line head (codes "NOTYET")
 reply_text head NoTransaction = refused_line head (codes "NOTRANSACTION")
 reply_text head InTransaction = refused_line head (codes "INTRANSACTION")
 reply_text head NoTable = refused_line head (codes "NOTABLE")
+reply_text head NoBank = refused_line head (codes "NOBANK")
+reply_text head NameTaken = refused_line head (codes "NAMETAKEN")
+reply_text head NotEmpty = refused_line head (codes "NOTEMPTY")
+reply_text head NoNumberLeft = refused_line head (codes "NONUMBERLEFT")
+reply_text head Fixed = refused_line head (codes "FIXED")
 reply_text head NoColumn = refused_line head (codes "NOCOLUMN")
 reply_text head KindMismatch = refused_line head (codes "KINDMISMATCH")
 reply_text head KeyColumn = refused_line head (codes "KEYCOLUMN")
@@ -63,7 +68,10 @@ reply_text head RowTooWide = refused_line head (codes "ROWTOOWIDE")
 reply_text head TooManyWrites = refused_line head (codes "TOOMANYWRITES")
 reply_text head Overflow = refused_line head (codes "OVERFLOW")
 reply_text head (Halted k) = refused_line head (codes "HALTED " ++ decimal k)
+reply_text head (Aged oldest start) =
+    refused_line head (codes "AGED " ++ decimal oldest ++ codes " " ++ decimal start)
 reply_text head (Conflict j) = refused_line head (codes "CONFLICT " ++ decimal j)
+reply_text head HistoryFull = refused_line head (codes "HISTORYFULL")
 reply_text head (Full need room) =
     refused_line head (codes "FULL " ++ decimal need ++ codes " " ++ decimal room)
 reply_text head (Fault f) = refused_line head (codes "FAULT " ++ decimal f)

@@ -1,7 +1,8 @@
 //! The reserved words.
-ghost use Rattle.std.specs.Prelude.{◌≡◌, find};
+ghost use Rattle.std.specs.Prelude.{◌≡◌, ◌==◌, slice_index, find, filter};
+ghost use Rattle.std.specs.Char.{to_ascii_lowercase};
 ghost use Rattle.std.specs.Str.{str_eq_ignore_ascii_case};
-ghost use Rattle.odb_model.specs.Lexeme.{word_text, keyword_of};
+ghost use Rattle.odb_model.specs.Lexeme.{word_text, keywords, keyword_of};
 
 /// A reserved word, which is no name. Its text is its own name in capitals.
 #[derive(Clone, Copy, Debug, PartialEq, Eq)]
@@ -46,49 +47,6 @@ pub enum Keyword {
     And,
     Is,
 }
-
-/// All reserved words.
-const KEYWORDS: [Keyword; 39] = [
-    Keyword::Start,
-    Keyword::Commit,
-    Keyword::Rollback,
-    Keyword::Select,
-    Keyword::From,
-    Keyword::Where,
-    Keyword::Insert,
-    Keyword::Into,
-    Keyword::Values,
-    Keyword::Update,
-    Keyword::Set,
-    Keyword::Delete,
-    Keyword::Create,
-    Keyword::Databank,
-    Keyword::Table,
-    Keyword::Primary,
-    Keyword::Key,
-    Keyword::In,
-    Keyword::Drop,
-    Keyword::Shadow,
-    Keyword::For,
-    Keyword::Online,
-    Keyword::Offline,
-    Keyword::Alter,
-    Keyword::To,
-    Keyword::Master,
-    Keyword::Backup,
-    Keyword::Of,
-    Keyword::Ready,
-    Keyword::Restore,
-    Keyword::Count,
-    Keyword::Sum,
-    Keyword::Null,
-    Keyword::Integer,
-    Keyword::Varchar,
-    Keyword::Not,
-    Keyword::Or,
-    Keyword::And,
-    Keyword::Is,
-];
 
 impl Keyword {
     /// Its text, in capitals.
@@ -151,7 +109,50 @@ impl Keyword {
     pub fn of(word: &[u8]) -> Option<Keyword>
         ensures { result ≡ keyword_of word.now }
     {
-        found(&KEYWORDS, word)
+        match word {
+            [] => None,
+            [first, ..] => found(beginning_with(first.to_ascii_lowercase()), word),
+        }
+    }
+}
+
+/// The reserved words that begin with a small letter, by their texts in small letters.
+#[tactic(auto, unfolding(crate::specs::Lexeme::word_text))]
+fn beginning_with(letter: u8) -> &'static [Keyword]
+    ensures { result.now ≡ filter
+        (λ keyword. to_ascii_lowercase (slice_index (word_text keyword) 0) == letter) keywords }
+{
+    match letter {
+        b'a' => &[Keyword::Alter, Keyword::And],
+        b'b' => &[Keyword::Backup],
+        b'c' => &[Keyword::Commit, Keyword::Create, Keyword::Count],
+        b'd' => &[Keyword::Delete, Keyword::Databank, Keyword::Drop],
+        b'f' => &[Keyword::From, Keyword::For],
+        b'i' => &[
+            Keyword::Insert,
+            Keyword::Into,
+            Keyword::In,
+            Keyword::Integer,
+            Keyword::Is,
+        ],
+        b'k' => &[Keyword::Key],
+        b'm' => &[Keyword::Master],
+        b'n' => &[Keyword::Null, Keyword::Not],
+        b'o' => &[Keyword::Online, Keyword::Offline, Keyword::Of, Keyword::Or],
+        b'p' => &[Keyword::Primary],
+        b'r' => &[Keyword::Rollback, Keyword::Ready, Keyword::Restore],
+        b's' => &[
+            Keyword::Start,
+            Keyword::Select,
+            Keyword::Set,
+            Keyword::Shadow,
+            Keyword::Sum,
+        ],
+        b't' => &[Keyword::Table, Keyword::To],
+        b'u' => &[Keyword::Update],
+        b'v' => &[Keyword::Values, Keyword::Varchar],
+        b'w' => &[Keyword::Where],
+        _ => &[],
     }
 }
 

@@ -56,19 +56,32 @@ pub enum Reply {
     /// No table of the dictionary has the name. The statement changed nothing, as with each refusal
     /// below up to TooManyWrites.
     NoTable,
+    /// No databank of the dictionary has the name. Nothing has changed, as with each refusal of a
+    /// definition.
+    NoBank,
+    /// The name of a new object is taken, or two columns of a new table have one name.
+    NameTaken,
+    /// The table holds a row, and so can't be dropped.
+    NotEmpty,
+    /// All numbers that the dictionary gives to its objects have been used.
+    NoNumberLeft,
+    /// The object is fixed: no definition changes it.
+    Fixed,
     /// The table has no column of a name that the statement names.
     NoColumn,
     /// A number stands where a text is wanted, or a text where a number is.
     KindMismatch,
     /// The statement sets a column of the primary key.
     KeyColumn,
-    /// A tuple has more or fewer values than the table has columns, or a column is set twice.
+    /// A tuple has more or fewer values than the table has columns, or a column is set twice; or a
+    /// new table would have more than 15 columns, or has a column twice in its primary key.
     ColumnCount,
     /// A row with this key is there already. The statement changed nothing.
     Duplicate,
     /// A column that takes no NULL would get one.
     NullNotAllowed,
-    /// A text would have more characters than its column takes.
+    /// A text would have more characters than its column takes; or a column of a new table would
+    /// take other than 1 to 200.
     TooLong,
     /// The image of a key would have more than 256 bytes.
     KeyTooWide,
@@ -82,9 +95,15 @@ pub enum Reply {
     /// The entry of this number is in doubt. The transaction stands, and can't be committed before
     /// the files are opened again.
     Halted(u64),
+    /// The transaction read where the history had so many entries, and those behind them are no
+    /// longer all kept: the entries up to `start` aren't. So it can't be told whether it conflicts.
+    /// The transaction is over.
+    Aged { oldest: u64, start: u64 },
     /// The entry of this number wrote a range that the transaction had read before. The transaction
     /// is over.
     Conflict(u64),
+    /// The history has as many entries as it may have. The transaction stands.
+    HistoryFull,
     /// The record of the transaction needs so many bytes, and the active side of TRANSDB has so
     /// many left. The transaction stands.
     Full { need: u64, room: u64 },
@@ -116,6 +135,11 @@ impl Duplicate for Reply {
             Reply::NoTransaction => Ok(Reply::NoTransaction),
             Reply::InTransaction => Ok(Reply::InTransaction),
             Reply::NoTable => Ok(Reply::NoTable),
+            Reply::NoBank => Ok(Reply::NoBank),
+            Reply::NameTaken => Ok(Reply::NameTaken),
+            Reply::NotEmpty => Ok(Reply::NotEmpty),
+            Reply::NoNumberLeft => Ok(Reply::NoNumberLeft),
+            Reply::Fixed => Ok(Reply::Fixed),
             Reply::NoColumn => Ok(Reply::NoColumn),
             Reply::KindMismatch => Ok(Reply::KindMismatch),
             Reply::KeyColumn => Ok(Reply::KeyColumn),
@@ -128,7 +152,12 @@ impl Duplicate for Reply {
             Reply::TooManyWrites => Ok(Reply::TooManyWrites),
             Reply::Overflow => Ok(Reply::Overflow),
             Reply::Halted(number) => Ok(Reply::Halted(*number)),
+            Reply::Aged { oldest, start } => Ok(Reply::Aged {
+                oldest: *oldest,
+                start: *start,
+            }),
             Reply::Conflict(number) => Ok(Reply::Conflict(*number)),
+            Reply::HistoryFull => Ok(Reply::HistoryFull),
             Reply::Full { need, room } => Ok(Reply::Full {
                 need: *need,
                 room: *room,

@@ -1,5 +1,5 @@
 mod Beside
-mod Opens
+pub mod Opens
 mod Places
 mod Front
 mod Putting

@@ -17,7 +17,7 @@ use Rattle.odb_kept.specs.Running.{machine_after as after_all, IsRunning}
 use Rattle.odb_kept.proofs.Running.{answered, goes_on, goes_on_silently, run_none, run_then, stepped, steps_behind}
 use Rattle.odb_model.specs.declared.reply.Head.{Head}
 use Rattle.odb_model.specs.declared.reply.Reply.{Reply}
-use Rattle.odb_model.specs.declared.reply.Reply.TheVariants.{Okay, Rows, Done, Committed, Ended, InDoubt, Character, Text, Number, Syntax, End, Long, Line, NoSession, NotYet, NoTransaction, InTransaction, NoTable, NoColumn, KindMismatch, KeyColumn, ColumnCount, Duplicate, NullNotAllowed, TooLong, KeyTooWide, RowTooWide, TooManyWrites, Overflow, Halted, Conflict, Full, Fault, Memory}
+use Rattle.odb_model.specs.declared.reply.Reply.TheVariants.{Okay, Rows, Done, Committed, Ended, InDoubt, Character, Text, Number, Syntax, End, Long, Line, NoSession, NotYet, NoTransaction, InTransaction, NoTable, NoBank, NameTaken, NotEmpty, NoNumberLeft, Fixed, NoColumn, KindMismatch, KeyColumn, ColumnCount, Duplicate, NullNotAllowed, TooLong, KeyTooWide, RowTooWide, TooManyWrites, Overflow, Halted, Aged, Conflict, HistoryFull, Full, Fault, Memory}
 use Rattle.odb_model.specs.Machine.{Machine}
 use Rattle.odb_model.specs.Print.{head_text, line_of, row_line, reply_text}
 use Rattle.odb_model.specs.Play.{Answer, text_of_answer, said_by, machine_after}
@@ -80,6 +80,11 @@ reply_said head NotYet = line_said head (codes "REFUSED NOTYET")
 reply_said head NoTransaction = line_said head (codes "REFUSED NOTRANSACTION")
 reply_said head InTransaction = line_said head (codes "REFUSED INTRANSACTION")
 reply_said head NoTable = line_said head (codes "REFUSED NOTABLE")
+reply_said head NoBank = line_said head (codes "REFUSED NOBANK")
+reply_said head NameTaken = line_said head (codes "REFUSED NAMETAKEN")
+reply_said head NotEmpty = line_said head (codes "REFUSED NOTEMPTY")
+reply_said head NoNumberLeft = line_said head (codes "REFUSED NONUMBERLEFT")
+reply_said head Fixed = line_said head (codes "REFUSED FIXED")
 reply_said head NoColumn = line_said head (codes "REFUSED NOCOLUMN")
 reply_said head KindMismatch = line_said head (codes "REFUSED KINDMISMATCH")
 reply_said head KeyColumn = line_said head (codes "REFUSED KEYCOLUMN")
@@ -92,6 +97,8 @@ reply_said head RowTooWide = line_said head (codes "REFUSED ROWTOOWIDE")
 reply_said head TooManyWrites = line_said head (codes "REFUSED TOOMANYWRITES")
 reply_said head Overflow = line_said head (codes "REFUSED OVERFLOW")
 reply_said head (Halted k) = line_said head (codes "REFUSED HALTED " ++ decimal k)
+reply_said head (Aged oldest start) = line_said head (codes "REFUSED AGED " ++ decimal oldest ++ codes " " ++ decimal start)
+reply_said head HistoryFull = line_said head (codes "REFUSED HISTORYFULL")
 reply_said head (Conflict j) = line_said head (codes "REFUSED CONFLICT " ++ decimal j)
 reply_said head (Full need room) = line_said head (codes "REFUSED FULL " ++ decimal need ++ codes " " ++ decimal room)
 reply_said head (Fault f) = line_said head (codes "REFUSED FAULT " ++ decimal f)

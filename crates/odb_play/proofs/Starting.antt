@@ -28,16 +28,17 @@ use Rattle.odb_transdb.specs.Standing.{Db, Stands, IsPlaced}
 use Rattle.odb_transdb.specs.Answers.{KeepsOpened}
 use Rattle.odb_transdb.specs.Worlds.{OpensAsBefore, OnlyClosesGates, HasClosedGates}
 use Rattle.odb_transdb.specs.declared.error.TransdbError.{TransdbError}
-use Rattle.odb_transdb.specs.declared.error.TransdbError.TheVariants.{NoDatabase as NoPair, Damaged as BadBytes, Full, FaultBefore, InDoubt, Fault, NoMemory as NoRoom}
-use Rattle.odb_system.specs.Held.{Held, StandsFor, Begins, sides_of}
+use Rattle.odb_transdb.specs.declared.error.TransdbError.TheVariants.{NoDatabase as NoPair, Damaged as BadBytes, Full, FaultBefore, InDoubt, NotClean, Held as NotCovered, Fault, NoMemory as NoRoom}
+use Rattle.odb_commit.specs.Standing.{sides_of}
+use Rattle.odb_system.specs.Held.{Held, StandsFor, Begins}
 use Rattle.odb_system.specs.Durable.{IsDurableBy}
 use Rattle.odb_system.specs.Kept.{OpensBy, IsKept, Rests}
-use Rattle.odb_system.proofs.Keeping.{rests_durable}
+use Rattle.odb_system.proofs.Keeping.{rests_log}
 use Rattle.odb_play.specs.Outside.{RoseBy}
 use Rattle.odb_play.specs.Crash.{IsFound, KeepsAtEntry, SurvivesCrashes, LosesNoCommit}
 use Rattle.odb_play.specs.Part.{after_of, Along, IsHeard}
 use Rattle.odb_play.specs.Played.{IsPlayed, IsPlayedOn}
-use Rattle.odb_play.specs.Started.{IsStarted, RefusesOpening, status_of}
+use Rattle.odb_play.specs.Started.{IsStarted, machine_of, RefusesOpening, status_of}
 use Rattle.odb_play.specs.Opening.{HoldsFrom, IsOpeningOf, IsPlayedFrom, IsRefused, PlayOutcome}
 use Rattle.odb_play.proofs.Outside.{touches_run, touches_then, rose_by_wider, rise_wider}
 use Rattle.odb_play.proofs.Parts.{audible}
@@ -186,26 +187,33 @@ module _ (m : Machine) (status : Status) (old mid new : World) (run : Runs 0 (Ke
       loses_none m entry lines.0 behind.answers old new lines.1 (told_log entry old keeps) (along_all entry keeps.keeps) heard_all
 
 -- what was opened, as it is told of
-played_opens : (held : Held) (file : Option File) → IfSome file (λ f. opened f.bytes ≡ holding held.transdb.header held.history)
-    → first_held held.transdb.header ≡ 1 → IfSome file (λ f. HoldsFrom held.transdb.header.format (sides_of held.transdb.header) held.history (opened f.bytes))
-played_opens held None opens whole = tt
-played_opens held (Some f) opens whole = (held.transdb.header, opens, refl, refl, whole)
+played_opens : (h : Header) (es : List Entry) (file : Option File) → IfSome file (λ f. opened f.bytes ≡ holding h es)
+    → first_held h ≡ 1 → IfSome file (λ f. HoldsFrom h.format (sides_of h) es (opened f.bytes))
+played_opens h es None opens whole = tt
+played_opens h es (Some f) opens whole = (h, opens, refl, refl, whole)
+
+-- a system in which nothing is in doubt has no halted book
+unhalted : (held : Held) (es : List Entry) → StandsFor held (machine_of held es) → held.book.halted ≡ None
+unhalted held es stands = stands.book.halted
 
 -- the files rest behind it
-pub rests_started : (held : Held) (old mid : World) → IsStarted held old mid → Rests (first_machine held.transdb.header.format (sides_of held.transdb.header) held.history) (present mid)
-rests_started held old mid started = rests_durable held (first_machine held.transdb.header.format (sides_of held.transdb.header) held.history) started.stands started.whole (present mid) started.durable
+pub rests_started : (held : Held) (old mid : World) (started : IsStarted held old mid) → Rests (machine_of held started.entries) (present mid)
+rests_started held old mid started =
+    rests_log (machine_of held started.entries) held.book.transdb (present mid) (record { format = refl; sides = refl; first = started.whole })
+    (subst (λ (d : Option ℕ). IsDurableBy d held.book.transdb (file_of 0 mid)) (unhalted held started.entries started.stands) started.durable) started.holds
 
-pub played_from : (held : Held) (status : Status) (old mid new : World) → Runs 0 (KeepsOpened (file_of 0 old)) old mid → OnlyClosesGates old mid → ReadsImage (file_of 0 old) → IsStarted held old mid
-    → IsPlayedOn (first_machine held.transdb.header.format (sides_of held.transdb.header) held.history) status mid new → IsPlayedFrom status old new
+pub played_from : (held : Held) (status : Status) (old mid new : World) → Runs 0 (KeepsOpened (file_of 0 old)) old mid → OnlyClosesGates old mid → ReadsImage (file_of 0 old) → (started : IsStarted held old mid)
+    → IsPlayedOn (machine_of held started.entries) status mid new → IsPlayedFrom status old new
 unfolding played_behind
 played_from held status old mid new run gates reads started played =
-    let m : Machine = first_machine held.transdb.header.format (sides_of held.transdb.header) held.history in
+    let m : Machine = machine_of held started.entries in
+    let h : Header = held.book.transdb.header in
     let rests : Rests m (present mid) = rests_started held old mid started in
     record {
-      format = held.transdb.header.format;
-      sides = sides_of held.transdb.header;
-      entries = held.history;
-      opens = played_opens held (file_of 0 old) started.opens started.whole;
+      format = h.format;
+      sides = sides_of h;
+      entries = started.entries;
+      opens = played_opens h started.entries (file_of 0 old) started.opens started.whole;
       played = played_behind m status old mid new run rests played;
       begun = mid;
       opening = run;
@@ -214,7 +222,7 @@ played_from held status old mid new run gates reads started played =
       behind = played.causes;
       kept = played.kept;
       crash = survives m status old mid new run rests played
-          (λ entry keeps. found_read entry held.transdb.header held.history (file_of 0 old) (told_log entry old keeps) (keeps.keeps 0) reads started.opens);
+          (λ entry keeps. found_read entry h started.entries (file_of 0 old) (told_log entry old keeps) (keeps.keeps 0) reads started.opens);
       commits = loses m status old mid new run rests played;
     }
 
@@ -246,27 +254,27 @@ outcome_refused WriteFault old new refusal refused = absurd refusal
 outcome_refused Exists old new refusal refused = absurd refusal
 outcome_refused InputTooLong old new refusal refused = absurd refusal
 
-opening_of : (held : Held) (m : Machine) (status : Status) (what : Opened) (old new : World) → first_held held.transdb.header ≡ 1 → what ≡ holding held.transdb.header held.history → IsPlayed m status old new
+opening_of : (h : Header) (es : List Entry) (m : Machine) (status : Status) (what : Opened) (old new : World) → first_held h ≡ 1 → what ≡ holding h es → IsPlayed m status old new
     → IsOpeningOf status what
-opening_of held m Done what old new whole opens played = (held.transdb.header, held.history, opens, whole)
-opening_of held m ReadFault what old new whole opens played = (held.transdb.header, held.history, opens, whole)
-opening_of held m WriteFault what old new whole opens played = (held.transdb.header, held.history, opens, whole)
-opening_of held m InputTooLong what old new whole opens played = (held.transdb.header, held.history, opens, whole)
-opening_of held m NoMemory what old new whole opens played = tt
-opening_of held m (FileFault file) what old new whole opens played = tt
-opening_of held m Usage what old new whole opens played = absurd played.ends
-opening_of held m NoDatabase what old new whole opens played = absurd played.ends
-opening_of held m Exists what old new whole opens played = absurd played.ends
-opening_of held m (Damaged file at) what old new whole opens played = absurd played.ends
-opening_of held m (NotHeld bank mark first) what old new whole opens played = absurd played.ends
+opening_of h es m Done what old new whole opens played = (h, es, opens, whole)
+opening_of h es m ReadFault what old new whole opens played = (h, es, opens, whole)
+opening_of h es m WriteFault what old new whole opens played = (h, es, opens, whole)
+opening_of h es m InputTooLong what old new whole opens played = (h, es, opens, whole)
+opening_of h es m NoMemory what old new whole opens played = tt
+opening_of h es m (FileFault file) what old new whole opens played = tt
+opening_of h es m Usage what old new whole opens played = absurd played.ends
+opening_of h es m NoDatabase what old new whole opens played = absurd played.ends
+opening_of h es m Exists what old new whole opens played = absurd played.ends
+opening_of h es m (Damaged file at) what old new whole opens played = absurd played.ends
+opening_of h es m (NotHeld bank mark first) what old new whole opens played = absurd played.ends
 
-opening_by : (held : Held) (m : Machine) (status : Status) (file : Option File) (mid new : World) → first_held held.transdb.header ≡ 1
-    → IfSome file (λ f. opened f.bytes ≡ holding held.transdb.header held.history) → IsPlayed m status mid new → IfSome file (λ f. IsOpeningOf status (opened f.bytes))
-opening_by held m status None mid new whole opens played = tt
-opening_by held m status (Some f) mid new whole opens played = opening_of held m status (opened f.bytes) mid new whole opens played
+opening_by : (h : Header) (es : List Entry) (m : Machine) (status : Status) (file : Option File) (mid new : World) → first_held h ≡ 1
+    → IfSome file (λ f. opened f.bytes ≡ holding h es) → IsPlayed m status mid new → IfSome file (λ f. IsOpeningOf status (opened f.bytes))
+opening_by h es m status None mid new whole opens played = tt
+opening_by h es m status (Some f) mid new whole opens played = opening_of h es m status (opened f.bytes) mid new whole opens played
 
 pub opening_played : (held : Held) (m : Machine) (status : Status) (old mid new : World) → IsStarted held old mid → IsPlayed m status mid new → IfSome (file_of 0 old) (λ f. IsOpeningOf status (opened f.bytes))
-opening_played held m status old mid new started played = opening_by held m status (file_of 0 old) mid new started.whole started.opens played
+opening_played held m status old mid new started played = opening_by held.book.transdb.header started.entries m status (file_of 0 old) mid new started.whole started.opens played
 
 -- a play that was begun ends with no fault of a file
 pub no_file_fault : (m : Machine) (status : Status) (file : ℕ) (old new : World) → IsPlayed m status old new → status ≡ FileFault file → ⊥
@@ -292,20 +300,16 @@ holds_read h es None (Some g) told opens same = absurd (cc told)
 holds_read h es (Some f) (Some g) told opens same = same ∙ ap entries_of opens
 
 pub started_with : (held : Held) (db : Db) (es : List Entry) (old new : World) → Runs 0 (KeepsOpened (file_of 0 old)) old new → IfSome (file_of 0 old) (λ f. opened f.bytes ≡ holding db.header es)
-    → entries_in (file_of 0 new) ≡ entries_in (file_of 0 old) → Stands db (file_of 0 new) → first_held db.header ≡ 1 → StandsFor held (first_machine db.header.format (sides_of db.header) es) → held.history ≡ es → held.transdb ≡ db → IsStarted held old new
-started_with held db es old new run opens same stands whole is history transdb =
-    let got : IfSome (file_of 0 new) (λ f. entries_in (Some f) ≡ es) = holds_read db.header es (file_of 0 old) (file_of 0 new) (run.only.told new.time run.only.later (omega arith)) opens same in
-    record {
-      stands = subst (λ (d : Db). StandsFor held (first_machine d.header.format (sides_of d.header) held.history)) (sym transdb)
-          (subst (λ (x : List Entry). StandsFor held (first_machine db.header.format (sides_of db.header) x)) (sym history) is);
-      durable = subst (λ d. IsDurableBy d held (file_of 0 new)) (sym is.in_doubt) (
-        subst (λ (d : Db). Stands d (file_of 0 new)) (sym transdb) stands,
-        subst (λ (x : List Entry). IfSome (file_of 0 new) (λ f. entries_in (Some f) ≡ x)) (sym history) got,
-      );
-      opens = subst (λ (d : Db). IfSome (file_of 0 old) (λ f. opened f.bytes ≡ holding d.header held.history)) (sym transdb)
-          (subst (λ (x : List Entry). IfSome (file_of 0 old) (λ f. opened f.bytes ≡ holding db.header x)) (sym history) opens);
-      whole = ap (λ (d : Db). first_held d.header) transdb ∙ whole;
-    }
+    → entries_in (file_of 0 new) ≡ entries_in (file_of 0 old) → Stands db (file_of 0 new) → first_held db.header ≡ 1 → StandsFor held (first_machine db.header.format (sides_of db.header) es)
+    → held.book.transdb ≡ db → held.book.halted ≡ None → IsStarted held old new
+started_with held db es old new run opens same stands whole is transdb settled = record {
+  entries = es;
+  stands = subst (λ (d : Db). StandsFor held (first_machine d.header.format (sides_of d.header) es)) (sym transdb) is;
+  durable = subst (λ (d : Option ℕ). IsDurableBy d held.book.transdb (file_of 0 new)) (sym settled) (subst (λ (d : Db). Stands d (file_of 0 new)) (sym transdb) stands);
+  opens = subst (λ (d : Db). IfSome (file_of 0 old) (λ f. opened f.bytes ≡ holding d.header es)) (sym transdb) opens;
+  holds = holds_read db.header es (file_of 0 old) (file_of 0 new) (run.only.told new.time run.only.later (omega arith)) opens same;
+  whole = ap (λ (d : Db). first_held d.header) transdb ∙ whole;
+}
 
 -- what a refusal of the log leaves, by the status that it gives
 pub refused_with : (error : TransdbError) (old new : World) → OpensAsBefore old new → OnlyClosesGates old new → (error ≢ Fault → HasClosedGates old new) → (error ≡ NoPair → Keeps 0 old new) → IsRefused (status_of error) old new
@@ -315,6 +319,8 @@ refused_with NoRoom old new run bytes closed nothing = record { run = run; bytes
 refused_with Fault old new run bytes closed nothing = record { run = run; bytes = bytes; closed = λ never. absurd (never 0 refl); nothing = λ same. absurd (cc same) }
 refused_with FaultBefore old new run bytes closed nothing = record { run = run; bytes = bytes; closed = λ never. absurd (never 0 refl); nothing = λ same. absurd (cc same) }
 refused_with (Full need room) old new run bytes closed nothing = record { run = run; bytes = bytes; closed = λ never. absurd (never 0 refl); nothing = λ same. absurd (cc same) }
+refused_with NotClean old new run bytes closed nothing = record { run = run; bytes = bytes; closed = λ never. absurd (never 0 refl); nothing = λ same. absurd (cc same) }
+refused_with (NotCovered mark last) old new run bytes closed nothing = record { run = run; bytes = bytes; closed = λ never. absurd (never 0 refl); nothing = λ same. absurd (cc same) }
 refused_with (InDoubt number) old new run bytes closed nothing = record { run = run; bytes = bytes; closed = λ never. absurd (never 0 refl); nothing = λ same. absurd (cc same) }
 
 -- and a refusal behind an opening

@@ -1,5 +1,5 @@
 -- What a step of the machine leaves of its history, and what its reply tells.
-use Rattle.std.proofs.Common.{◌≡◌, inl, inr, ℕ, ◌+◌, ◌≤◌, Bool, true, false, List, [], ◌∷◌, ◌++◌, length, Option, Some, None, refl, sym, ◌∙◌, ap, subst, arith, append_assoc, length-append, eqb-true}
+use Rattle.std.proofs.Common.{◌≡◌, inl, inr, ℕ, ◌+◌, ◌≤◌, Bool, true, false, cond, List, [], ◌∷◌, ◌++◌, length, Option, Some, None, refl, sym, ◌∙◌, ap, subst, arith, append_assoc, length-append, eqb-true}
 use Rattle.std.specs.Prelude.{take}
 use Rattle.std.proofs.lemmas.List.{append-nil}
 use Rattle.std.proofs.Math.Seq.{take-append_seam}
@@ -10,19 +10,22 @@ use Rattle.odb_model.specs.declared.event.Event.TheVariants.{Session as OfSessio
 use Rattle.odb_model.specs.declared.reply.Head.{Head}
 use Rattle.odb_model.specs.declared.reply.Head.TheVariants.{Session as HeadOf, Control, Unknown}
 use Rattle.odb_model.specs.declared.reply.Reply.{Reply}
-use Rattle.odb_model.specs.declared.reply.Reply.TheVariants.{Okay, Committed, Ended, InDoubt, NotYet, NoTransaction, InTransaction, Halted, Conflict, Full, Fault, Memory}
+use Rattle.odb_model.specs.declared.reply.Reply.TheVariants.{Okay, Committed, Ended, InDoubt, NotYet, NoTransaction, InTransaction, Halted, Conflict, HistoryFull, Full, Fault, Memory}
 use Rattle.odb_model.specs.declared.statement.Statement.{Statement}
 use Rattle.odb_model.specs.declared.statement.Statement.TheVariants.{Start, Commit, Select, Insert, Rollback, Update, Delete, CreateDatabank, CreateTable, DropTable, CreateShadow, ShadowOnline, ShadowOffline, ShadowMaster, DropShadow, CreateBackup, BackupReady, DropBackup, Restore}
 use Rattle.odb_model.specs.State.{replay}
-use Rattle.odb_model.specs.Transaction.{Executed, open_state, table_keys, net, conflict}
+use Rattle.odb_model.specs.Transaction.{Executed, open_state, table_keys, net, reads_of, conflict}
 use Rattle.odb_model.specs.Session.{Session, Idle, Working}
-use Rattle.odb_model.specs.Book.{Book, Seen, by_doubt, next_entry, Decides}
+use Rattle.odb_model.specs.Window.{window_start, oldest_number}
+use Rattle.odb_model.specs.Definitions.{Planned, Refused, Plans, planned}
+use Rattle.odb_model.specs.Book.{Book, Seen, Verdict, by_conflict, unless_aged, by_doubt, next_entry, Seals, Decides, DefinesBy, ends_transaction}
 use Rattle.odb_model.specs.Book as book
-use Rattle.odb_model.specs.Machine.{Machine, with_session, book_of, with_book, behind, with_doubt, history_or_more, writes_made, executed_now, Starts, Executes, Commits, RollsBack, Refuses, UpkeepStep, StatementStep, Step}
+use Rattle.odb_model.specs.Machine.{Machine, with_session, book_of, with_book, behind, with_doubt, history_or_more, writes_made, executed_now, Starts, Executes, Commits, RollsBack, DefinesIn, Refuses, UpkeepStep, StatementStep, Step}
 use Rattle.odb_model.specs.Script.{IsRefused}
 use Rattle.odb_model.specs.Play.{Answer, IsAnswer, IsRun, tells_fault}
 use Rattle.odb_model.proofs.Meant.{is_meant}
-use Rattle.odb_model.proofs.Runs.{not_meant}
+use Rattle.odb_model.proofs.Refusals.{is_refusal, not_refused}
+use Rattle.odb_model.proofs.Runs.{not_meant, unless_aged-or}
 use Rattle.odb_play.proofs.Outside.{TellRisen}
 
 -- the history never gets shorter, and what may be on the disk besides it stays or grows
@@ -134,23 +137,67 @@ leaves_executes m s st seen (Working t) reply after step = (goes_session m s (Wo
 one_longer : (m : Machine) (b : Book) (e : Entry) (k : ℕ) → k ≡ length m.history + 1 → b ≡ book.with_entry (book_of m) e → k ≤ length b.history
 one_longer m b e k place same = omega (arith, ap (λ (x : Book). length x.history) same, length-append m.history (e ∷ []))
 
+-- what a book's answer leaves of it, and tells
+abbrev Tells : Machine → Seen → Reply → Book → Type 0
+Tells m seen reply b = GoesBook m b × IsSo seen reply (with_book m b)
+
+-- the sealing of some writes
+tells_seals : (m : Machine) (s : ℕ) (seen : Seen) (ws : List Write) (reply : Reply) (b : Book) → m.in_doubt ≡ None → Seals (book_of m) seen s ws reply b → Tells m seen reply b
+tells_seals m s seen ws HistoryFull b is seals = (book_same m b seals.1, tt)
+tells_seals m s seen ws (Full need room) b is seals = (book_same m b seals.4, tt)
+tells_seals m s seen ws (Fault f) b is seals = (book_same m b seals.4, subst (λ (x : ℕ). seen.rose x ≡ true) (sym seals.1) seals.2)
+tells_seals m s seen ws (InDoubt k) b is seals = (book_doubt m b (next_entry (book_of m) s ws) is seals.4, seals.2)
+tells_seals m s seen ws (Committed k) b is seals =
+    (book_entry m b (next_entry (book_of m) s ws) is seals.2, one_longer m b (next_entry (book_of m) s ws) k seals.1 seals.2)
+tells_seals m s seen ws reply b is seals = absurd seals
+
 -- COMMIT, by what its verdict is judged by
-leaves_decides : (m : Machine) (s : ℕ) (seen : Seen) (d : Option Entry) (later : Option ℕ) (ws : List Write) (reply : Reply) (b : Book) → m.in_doubt ≡ d
-    → Decides (book_of m) seen s (by_doubt d later (length m.history) ws) reply b → Leaves m seen reply (behind m s reply b)
-leaves_decides m s seen (Some x) later ws (Halted j) b is decides = (goes_book m (with_book m b) b refl refl (book_same m b decides.1), tt)
-leaves_decides m s seen (Some x) later ws reply b is decides = absurd decides
-leaves_decides m s seen None (Some k) ws (Conflict j) b is decides = (goes_book m (with_session (with_book m b) s Idle) b refl refl (book_same m b decides.1), tt)
-leaves_decides m s seen None (Some k) ws reply b is decides = absurd decides
-leaves_decides m s seen None None [] (Ended p) b is decides = (goes_book m (with_session (with_book m b) s Idle) b refl refl (book_same m b decides.1), tt)
-leaves_decides m s seen None None [] reply b is decides = absurd decides
-leaves_decides m s seen None None (w ∷ ws) (Full need room) b is decides = (goes_book m (with_book m b) b refl refl (book_same m b decides.3), tt)
-leaves_decides m s seen None None (w ∷ ws) (Fault f) b is decides =
-    (goes_book m (with_book m b) b refl refl (book_same m b decides.4), subst (λ (x : ℕ). seen.rose x ≡ true) (sym decides.1) decides.2)
-leaves_decides m s seen None None (w ∷ ws) (InDoubt k) b is decides =
-    (goes_book m (with_session (with_book m b) s Idle) b refl refl (book_doubt m b (next_entry (book_of m) s (w ∷ ws)) is decides.4), decides.2)
-leaves_decides m s seen None None (w ∷ ws) (Committed k) b is decides =
-    (goes_book m (with_session (with_book m b) s Idle) b refl refl (book_entry m b (next_entry (book_of m) s (w ∷ ws)) is decides.2), one_longer m b (next_entry (book_of m) s (w ∷ ws)) k decides.1 decides.2)
-leaves_decides m s seen None None (w ∷ ws) reply b is decides = absurd decides
+tells_judged : (m : Machine) (s : ℕ) (seen : Seen) (later : Option ℕ) (ws : List Write) (reply : Reply) (b : Book) → m.in_doubt ≡ None
+    → Decides (book_of m) seen s (by_conflict later (length m.history) ws) reply b → Tells m seen reply b
+tells_judged m s seen (Some k) ws (Conflict j) b is decides = (book_same m b decides.1, tt)
+tells_judged m s seen (Some k) ws reply b is decides = absurd decides
+tells_judged m s seen None [] (Ended p) b is decides = (book_same m b decides.1, tt)
+tells_judged m s seen None [] reply b is decides = absurd decides
+tells_judged m s seen None (w ∷ ws) reply b is decides = tells_seals m s seen (w ∷ ws) reply b is decides
+
+tells_decides : (m : Machine) (s : ℕ) (seen : Seen) (d : Option Entry) (oldest : Option ℕ) (start : ℕ) (later : Option ℕ) (ws : List Write) (reply : Reply) (b : Book) → m.in_doubt ≡ d
+    → Decides (book_of m) seen s (by_doubt d (unless_aged oldest start (by_conflict later (length m.history) ws))) reply b → Tells m seen reply b
+tells_decides m s seen (Some x) oldest start later ws (Halted j) b is decides = (book_same m b decides.1, tt)
+tells_decides m s seen (Some x) oldest start later ws reply b is decides = absurd decides
+tells_decides m s seen None oldest start later ws reply b is decides =
+    elim (unless_aged-or (book_of m) seen s oldest start (by_conflict later (length m.history) ws) reply b decides) as (λ w. Tells m seen reply b) [
+      | inl judged ↦ tells_judged m s seen later ws reply b is judged
+      | inr aged ↦ subst (λ (r : Reply). Tells m seen r b) (sym aged.2) (book_same m b aged.3, tt)
+    ]
+
+-- a definition, by its plan
+tells_refused : (m : Machine) (seen : Seen) (st : Statement) (why : Reply) (after : Machine) → planned st (replay m.history) ≡ Refused why → IsSo seen why after
+unfolding is_refusal
+tells_refused m seen st (Committed k) after same = absurd (not_refused st (replay m.history) (Committed k) refl same)
+tells_refused m seen st (Fault f) after same = absurd (not_refused st (replay m.history) (Fault f) refl same)
+tells_refused m seen st (InDoubt k) after same = absurd (not_refused st (replay m.history) (InDoubt k) refl same)
+tells_refused m seen st why after same = tt
+
+tells_defines : (m : Machine) (s : ℕ) (seen : Seen) (st : Statement) (d : Option Entry) (p : Planned) (reply : Reply) (b : Book) → m.in_doubt ≡ d → planned st (replay m.history) ≡ p
+    → DefinesBy d (book_of m) seen s p reply b → Tells m seen reply b
+tells_defines m s seen st (Some e) p reply b is plan defines = subst (λ (r : Reply). Tells m seen r b) (sym defines.0) (book_same m b defines.1, tt)
+tells_defines m s seen st None (Refused why) reply b is plan defines =
+    (book_same m b defines.1, subst (λ (r : Reply). IsSo seen r (with_book m b)) (sym defines.0) (tells_refused m seen st why (with_book m b) plan))
+tells_defines m s seen st None (Plans ws) reply b is plan defines = tells_seals m s seen ws reply b is defines
+
+-- behind a commit, whatever the session is then in
+so_idle : (m : Machine) (s : ℕ) (seen : Seen) (reply : Reply) → IsSo seen reply m → IsSo seen reply (with_session m s Idle)
+so_idle m s seen (Committed k) so = so
+so_idle m s seen (Fault f) so = so
+so_idle m s seen (InDoubt k) so = so
+so_idle m s seen reply so = tt
+
+leaves_behind : (m : Machine) (s : ℕ) (seen : Seen) (reply : Reply) (b : Book) → Tells m seen reply b → Leaves m seen reply (behind m s reply b)
+leaves_behind m s seen reply b tells =
+    elim (ends_transaction reply) as (λ (c : Bool). Leaves m seen reply (cond c (with_session (with_book m b) s Idle) (with_book m b))) [
+      | true ↦ (goes_book m (with_session (with_book m b) s Idle) b refl refl tells.0, so_idle (with_book m b) s seen reply tells.1)
+      | false ↦ (goes_book m (with_book m b) b refl refl tells.0, tells.1)
+    ]
 
 leaves_commits : (m : Machine) (s : ℕ) (seen : Seen) (o : Session) (reply : Reply) (after : Machine) → Commits m s seen o reply after → Leaves m seen reply after
 leaves_commits m s seen Idle NoTransaction after step = (goes_same m after step, tt)
@@ -159,13 +206,24 @@ leaves_commits m s seen (Working t) Memory after step = (goes_same m after step,
 leaves_commits m s seen Idle reply after step = absurd step
 leaves_commits m s seen (Working t) reply after step =
     subst (λ (x : Machine). Leaves m seen reply x) (sym step.2)
-    (leaves_decides m s seen m.in_doubt (conflict m.history t m.format) (net (replay m.history) (writes_made m t)) reply step.0 refl step.1)
+    (leaves_behind m s seen reply step.0
+    (tells_decides m s seen m.in_doubt (oldest_number (reads_of m.history t m.format)) (window_start m.history) (conflict m.history t m.format) (net (replay m.history) (writes_made m t)) reply step.0 refl step.1))
 
 leaves_rolls_back : (m : Machine) (s : ℕ) (seen : Seen) (o : Session) (reply : Reply) (after : Machine) → RollsBack m s o reply after → Leaves m seen reply after
 leaves_rolls_back m s seen Idle NoTransaction after step = (goes_same m after step, tt)
 leaves_rolls_back m s seen (Working t) Okay after step = (goes_session m s Idle after step, tt)
 leaves_rolls_back m s seen Idle reply after step = absurd step
 leaves_rolls_back m s seen (Working t) reply after step = absurd step
+
+leaves_defines : (m : Machine) (s : ℕ) (seen : Seen) (st : Statement) (o : Session) (reply : Reply) (after : Machine) → DefinesIn m s seen st o reply after → Leaves m seen reply after
+leaves_defines m s seen st Idle Memory after step = (goes_same m after step, tt)
+leaves_defines m s seen st (Working t) Memory after step = (goes_same m after step, tt)
+leaves_defines m s seen st (Working t) InTransaction after step = (goes_same m after step, tt)
+leaves_defines m s seen st (Working t) reply after step = absurd step
+leaves_defines m s seen st Idle reply after step =
+    let b : Book = step.0 in
+    let tells : Tells m seen reply b = tells_defines m s seen st m.in_doubt (planned st (replay m.history)) reply b refl refl step.1 in
+    subst (λ (x : Machine). Leaves m seen reply x) (sym step.2) (goes_book m (with_book m b) b refl refl tells.0, tells.1)
 
 leaves_refuses : (m : Machine) (seen : Seen) (reply : Reply) (after : Machine) → Refuses m reply after → Leaves m seen reply after
 leaves_refuses m seen NotYet after step = (goes_same m after step, tt)
@@ -181,8 +239,8 @@ leaves_runs m s seen Rollback reply after step = leaves_rolls_back m s seen (m.s
 leaves_runs m s seen (Update table sets w) reply after step = leaves_executes m s (Update table sets w) seen (m.sessions s) reply after step
 leaves_runs m s seen (Delete table w) reply after step = leaves_executes m s (Delete table w) seen (m.sessions s) reply after step
 leaves_runs m s seen (CreateDatabank name) reply after step = leaves_refuses m seen reply after step
-leaves_runs m s seen (CreateTable name columns key bank) reply after step = leaves_refuses m seen reply after step
-leaves_runs m s seen (DropTable name) reply after step = leaves_refuses m seen reply after step
+leaves_runs m s seen (CreateTable name columns key bank) reply after step = leaves_defines m s seen (CreateTable name columns key bank) (m.sessions s) reply after step
+leaves_runs m s seen (DropTable name) reply after step = leaves_defines m s seen (DropTable name) (m.sessions s) reply after step
 leaves_runs m s seen (CreateShadow name bank) reply after step = leaves_refuses m seen reply after step
 leaves_runs m s seen (ShadowOnline name) reply after step = leaves_refuses m seen reply after step
 leaves_runs m s seen (ShadowOffline name) reply after step = leaves_refuses m seen reply after step

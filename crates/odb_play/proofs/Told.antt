@@ -2,24 +2,22 @@
 use Rattle.std.proofs.Common.{◌≡◌, ◌≢◌, ℕ, ◌-◌, ◌<◌, false, List, [], length, take, drop, refl, sym, ap, ◌∙◌, subst, Option, arith, inl, inr}
 use Rattle.std.specs.Prelude.{Ok, Err}
 use Rattle.odb_model.specs.declared.event.Event.{Event}
+use Rattle.odb_model.specs.declared.event.Event.TheVariants.{Session as OfSession, Control as Upkeep}
 use Rattle.odb_model.specs.declared.reply.Head.{Head}
 use Rattle.odb_model.specs.declared.reply.Head.TheVariants.{Session as HeadOf, Control, Unknown}
 use Rattle.odb_model.specs.declared.reply.Reply.{Reply}
-use Rattle.odb_system.specs.Held.{Held, StandsFor}
-use Rattle.odb_device.specs.World.{File, World, present, file_of}
+use Rattle.odb_system.specs.Held.{Held, StandsFor, IsAsked}
+use Rattle.odb_device.specs.World.{File, World, present}
 use Rattle.odb_device.specs.Counts.{Adds}
 use Rattle.odb_device.specs.Console.{Says, BreaksOff}
 use Rattle.odb_model.specs.Print.{reply_text}
 use Rattle.std.proofs.lemmas.List.{take-append-drop, length-drop}
 use Rattle.odb_device.specs.Console.{SaysOnly}
 use Rattle.odb_device.specs.Moments.{Runs}
-use Rattle.odb_device.proofs.Time.{begins}
 use Rattle.odb_device.proofs.Stretches.{steps_none}
 use Rattle.odb_kept.specs.Kept.{KeptByEither}
 use Rattle.odb_kept.proofs.Keeping.{either_before}
 use Rattle.odb_reply.specs.Telling.{TellsAlone}
-use Rattle.odb_system.specs.Durable.{HoldsThroughout, IsDurable}
-use Rattle.odb_system.proofs.Keeping.{holds_either}
 use Rattle.odb_system.specs.Kept.{IsKept, Rests, IsDoubtCaused, StepWrites, Stepped}
 use Rattle.odb_play.specs.declared.player.Stop.TheVariants.{WriteFault as OutputFails, NoMemory as MemoryFails}
 use Rattle.odb_play.specs.Part.{IsCaused}
@@ -44,6 +42,11 @@ longer_told front line m answer long same (inr step) =
 pub fronts_tell : (front line : List ℕ) (m : Machine) (answer : Answer) → IsFrontOf FRONT front line → IsAnswer front m answer → IsAnswer line m answer
 fronts_tell front line m answer (inl same) is = subst (λ (x : List ℕ). IsAnswer x m answer) same is
 fronts_tell front line m answer (inr longer) is = longer_told front line m answer longer.0 longer.1 is
+
+-- a line that asks for a step asks for one that the system takes
+pub asked : (line : List ℕ) (event : Event) → IsRequest line event → IsAsked event
+asked line (OfSession s st) request = (request.1.there, (request.2.lexemes, request.2.spells))
+asked line (Upkeep control) request = tt
 
 -- the system stepped
 pub replies_event : (line : List ℕ) (m : Machine) (event : Event) (reply : Reply) (held : Held) (old new : World) → IsRequest line event → Stepped m event reply held old new
@@ -104,10 +107,6 @@ refused line m head reply held w refusal stands rests = record {
   quiet = (refl, refl);
   rests = rests;
 }
-
--- and nothing was done
-pub holds_still : (held : Held) (w : World) → IsDurable held (file_of 0 w) → Runs 0 (HoldsThroughout held held) w w
-holds_still held w durable = begins 0 (HoldsThroughout held held) w (holds_either held (file_of 0 w) durable)
 
 -- a rest that is not said is not empty
 some_left : (n : ℕ) (bytes : List ℕ) → n < length bytes → drop n bytes ≢ []

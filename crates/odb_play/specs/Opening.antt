@@ -12,7 +12,7 @@ use Rattle.odb_transdb.specs.declared.header.Header.{Header}
 use Rattle.odb_transdb.specs.Header.{first_held}
 use Rattle.odb_transdb.specs.Opened.{Opened, no_database, damaged, holding, opened}
 use Rattle.odb_transdb.specs.Worlds.{OpensAsBefore, OnlyClosesGates, HasClosedGates}
-use Rattle.odb_system.specs.Held.{sides_of}
+use Rattle.odb_commit.specs.Standing.{sides_of}
 use Rattle.odb_system.specs.Kept.{Rests}
 use Rattle.odb_play.specs.Crash.{SurvivesCrashes, LosesNoCommit}
 use Rattle.odb_play.specs.Part.{Along, Causes}

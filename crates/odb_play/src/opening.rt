@@ -64,6 +64,8 @@ fn status_of(error: TransdbError) -> Status
         TransdbError::Fault
         | TransdbError::FaultBefore
         | TransdbError::Full { .. }
+        | TransdbError::NotClean
+        | TransdbError::Held { .. }
         | TransdbError::InDoubt { .. } => Status::FileFault { file: 0 },
     }
 }

@@ -2,12 +2,11 @@
 ghost use Rattle.std.specs.Prelude.{◌≡◌, ℕ, ◌+◌, ◌-◌, List, [], ◌∷◌, ◌++◌, take, length, position, ◌==◌, OnOk, OnErr, Err};
 ghost use Rattle.odb_device.specs.World.{file_of, present};
 ghost use Rattle.odb_device.specs.Console.{TakesNothing, SayCountRose};
-ghost use Rattle.odb_device.specs.Moments.{Runs};
 ghost use Rattle.odb_model.specs.Machine.{Machine};
 ghost use Rattle.odb_model.specs.Play.{Answer};
 ghost use Rattle.odb_model.specs.Script.{head_of, without_cr};
 ghost use Rattle.odb_system.specs.Held.{StandsFor};
-ghost use Rattle.odb_system.specs.Durable.{IsDurable, HoldsThroughout};
+ghost use Rattle.odb_system.specs.Durable.{IsDurable, ChangesLog};
 ghost use Rattle.odb_system.specs.Kept.{Rests};
 ghost use Rattle.odb_reply.specs.Unbroken.{HasNoLf};
 ghost use Rattle.odb_play.specs.LineFront.{read_of_ended, read_of_last};
@@ -119,8 +118,7 @@ fn reply_to<H: Host>(system: &mut System, alloc: Global, host: &mut H, line: &[u
     ensures answer { (m : Machine) → StandsFor system.old m → Rests m (present (H.world host.old))
         → Replies line.now m result.head result.reply system.new
         (H.world host.old) (H.world host.new) }
-    ensures run { Runs 0 (HoldsThroughout system.old system.new)
-        (H.world host.old) (H.world host.new) }
+    ensures only { ChangesLog (H.world host.old) (H.world host.new) }
     ensures durable { IsDurable system.new (file_of 0 (H.world host.new)) }
 {
     match event_of(alloc, line) {

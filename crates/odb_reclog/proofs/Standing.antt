@@ -1,5 +1,5 @@
 -- What bytes that stand for a log are after a change.
-use Rattle.std.proofs.Common.{◌≡◌, ◌≢◌, ◌⊎◌, inl, inr, ℕ, suc, ◌+◌, ◌-◌, ◌^◌, ◌<◌, ◌≤◌, Bool, true, false, List, [], ◌∷◌, ◌++◌, length, sym, ◌∙◌, ap, subst, arith, length-append}
+use Rattle.std.proofs.Common.{◌≡◌, ◌≢◌, ◌⊎◌, inl, inr, ℕ, suc, ◌+◌, ◌-◌, ◌^◌, ◌<◌, ◌≤◌, Bool, true, false, List, [], ◌∷◌, ◌++◌, length, refl, sym, ◌∙◌, ap, subst, arith, length-append}
 use Rattle.std.specs.Prelude.{slice_index}
 use Rattle.std.specs.Int.{w32, w64, to_be_bytes, from_be_bytes}
 use Rattle.std.proofs.lemmas.Nat.{from_be_bytes-to_be_bytes_4, from_be_bytes-to_be_bytes_8}
@@ -8,7 +8,7 @@ use Rattle.odb_device.specs.Images.{Torn, part, overwritten}
 use Rattle.odb_device.proofs.Bytes.{part_same, part_at, length-overwritten, part-overwritten, part-overwritten_outside, part_inside, overwritten-inside}
 use Rattle.odb_reclog.specs.Records.{OPEN, gate_at, size_at, number_at, payload_at, is_record, log_of, end_of_list}
 use Rattle.odb_device.specs.Zeros.{AreZero}
-use Rattle.odb_reclog.specs.Standing.{Log, IsLog, StandsFor, HasBody, tail_at}
+use Rattle.odb_reclog.specs.Standing.{Log, IsLog, StandsFor, HasBody, tail_at, begun}
 use Rattle.odb_reclog.proofs.Records.{SameOn, torn_outside, gate_same, size_same, number_same, payload_same, no_room, no_gate, records_same, RecordAt, Leads, list_leads, leads_list, leads_few, leads_same, leads_more, end_more}
 
 -- a zero is no open gate
@@ -319,3 +319,27 @@ gate_written log bytes =
     let there : log.place ≡ log.place + 0 = omega arith in
     let one : 0 < length (OPEN ∷ []) = omega arith in
     ap (slice_index (overwritten log.place (OPEN ∷ []) bytes)) there ∙ overwritten-inside log.place (OPEN ∷ []) bytes 0 one
+
+-- a region of zeros, in which no record was written yet
+pub stands_begun : (file start end first : ℕ) (bytes : List ℕ) → start < end → end ≤ 2 ^ 40 → first ≤ 2 ^ 63 → end ≤ length bytes → AreZero start end bytes → StandsFor (begun file start end first) [] [] bytes
+stands_begun file start end first bytes some most low long zeros =
+    let shut : gate_at start bytes ≢ OPEN = zero_gate start bytes (zeros start (omega arith) some) in
+    record {
+      in_range = record {
+        start = omega arith;
+        end = omega arith;
+        most = most;
+        first = low;
+        next = omega arith;
+        clear_from = omega arith;
+        clear_to = omega arith;
+        body = λ e. cc;
+      };
+      long = long;
+      list = leads_log start end first start [] bytes tt refl (omega arith) (λ room. shut);
+      place = refl;
+      number = omega arith;
+      closed = λ room. shut;
+      clear = λ i from to. zeros i (omega arith) to;
+      tail = λ e. part_none (start + 1) (start + 1 - (start + 1)) bytes (omega arith);
+    }

@@ -66,6 +66,21 @@ tail_of log (Some file) = tail_at log file.bytes
 abbrev pub Stands : Log → Option File → Type 0
 Stands log file = EachImage (StandsFor log (list_of log file) (tail_of log file)) file
 
+-- the log of a region of zeros: it has no record yet, and its tail is clear
+abbrev pub begun : ℕ → ℕ → ℕ → ℕ → Log
+begun file start end first = record {
+  file = file;
+  start = start;
+  end = end;
+  first = first;
+  place = start;
+  next = first;
+  clear_from = start + 1;
+  touched = false;
+  has_body = false;
+  in_doubt = false;
+}
+
 -- the tail is clear: behind the gate of the next record the region is zeros, on the disk
 abbrev pub IsClear : Log → Type 0
 IsClear log = log.clear_from ≤ log.place + 1

@@ -1,5 +1,5 @@
 //! A record log in memory.
-ghost use Rattle.std.specs.Prelude.{◌≡◌, ◌^◌, ◌-◌, ◌≤◌, ℕ, List, false, length};
+ghost use Rattle.std.specs.Prelude.{◌≡◌, ◌^◌, ◌-◌, ◌<◌, ◌≤◌, ℕ, List, [], false, length};
 
 use std::marker::Model;
 
@@ -40,7 +40,32 @@ impl Model for RecLog {
 
 impl RecLog {
     ghost use Rattle.odb_device.specs.Zeros.{AreZero};
-    ghost use Rattle.odb_reclog.specs.Standing.{StandsFor};
+    ghost use Rattle.odb_reclog.specs.Standing.{StandsFor, begun};
+
+    /// The log of a region that is zeros on the disk, from the byte `start` to before the byte
+    /// `end`: it has no record, and its first will have the number `first`.
+    ///
+    /// It makes no call of a store: the zeros have to be known.
+    pub fn begin(file: u32, start: u64, end: u64, first: u64) -> RecLog
+        requires region { (start < end) × (end ≤ 2 ^ 40) }
+        requires first { first ≤ 2 ^ 63 }
+        ensures log { result ≡ begun file start end first }
+        ensures stands { (bytes : List ℕ) → end ≤ length bytes → AreZero start end bytes
+            → StandsFor result [] [] bytes }
+    {
+        RecLog {
+            file,
+            start,
+            end,
+            first,
+            place: start,
+            next: first,
+            clear_from: start + 1,
+            touched: false,
+            has_body: false,
+            in_doubt: false,
+        }
+    }
 
     /// Gives the region a later end, in bytes from the file's start.
     ///

@@ -205,10 +205,16 @@ fn is_zero<S: Store>(store: &mut S, file: u32, at: u64, piece: &mut [u8]) -> Res
     Ok(are_zeros(piece))
 }
 
+/// Whether bytes are zeros. It looks at all of them, since a loop that never leaves early is
+/// compiled to compare many bytes at a time.
 fn are_zeros(bytes: &[u8]) -> bool
     ensures { IsTrue result ↔ EachIndex bytes.now (λ i. slice_index bytes.now i ≡ 0) }
 {
-    bytes.iter().all(|&byte| byte == 0)
+    let mut all = true;
+    for byte in bytes {
+        all &= *byte == 0;
+    }
+    all
 }
 
 /// Length and number of a record, as they stand behind its gate.

@@ -7,7 +7,7 @@ use Rattle.std.proofs.lemmas.List.Elements.{All-head, All-tail}
 use Rattle.odb_values.specs.declared.value.Value.{Value}
 use Rattle.odb_model.specs.declared.reply.Head.{Head}
 use Rattle.odb_model.specs.declared.reply.Reply.{Reply}
-use Rattle.odb_model.specs.declared.reply.Reply.TheVariants.{Okay, Rows, Done, Committed, Ended, InDoubt, Character, Text, Number, Syntax, End, Long, Line, NoSession, NotYet, NoTransaction, InTransaction, NoTable, NoColumn, KindMismatch, KeyColumn, ColumnCount, Duplicate, NullNotAllowed, TooLong, KeyTooWide, RowTooWide, TooManyWrites, Overflow, Halted, Conflict, Full, Fault, Memory}
+use Rattle.odb_model.specs.declared.reply.Reply.TheVariants.{Okay, Rows, Done, Committed, Ended, InDoubt, Character, Text, Number, Syntax, End, Long, Line, NoSession, NotYet, NoTransaction, InTransaction, NoTable, NoBank, NameTaken, NotEmpty, NoNumberLeft, Fixed, NoColumn, KindMismatch, KeyColumn, ColumnCount, Duplicate, NullNotAllowed, TooLong, KeyTooWide, RowTooWide, TooManyWrites, Overflow, Halted, Aged, Conflict, HistoryFull, Full, Fault, Memory}
 use Rattle.odb_model.specs.Print.{line_of, values_text, row_line, refused_line, reply_text}
 use Rattle.odb_model.specs.Acknowledged.{Acknowledges}
 use Rattle.odb_model.proofs.Decimal.{decimal-one, no_lf-decimal}
@@ -55,6 +55,11 @@ told_reply head NotYet k p t = absurd (untold_refusal head (codes "NOTYET") k re
 told_reply head NoTransaction k p t = absurd (untold_refusal head (codes "NOTRANSACTION") k refl t)
 told_reply head InTransaction k p t = absurd (untold_refusal head (codes "INTRANSACTION") k refl t)
 told_reply head NoTable k p t = absurd (untold_refusal head (codes "NOTABLE") k refl t)
+told_reply head NoBank k p t = absurd (untold_refusal head (codes "NOBANK") k refl t)
+told_reply head NameTaken k p t = absurd (untold_refusal head (codes "NAMETAKEN") k refl t)
+told_reply head NotEmpty k p t = absurd (untold_refusal head (codes "NOTEMPTY") k refl t)
+told_reply head NoNumberLeft k p t = absurd (untold_refusal head (codes "NONUMBERLEFT") k refl t)
+told_reply head Fixed k p t = absurd (untold_refusal head (codes "FIXED") k refl t)
 told_reply head NoColumn k p t = absurd (untold_refusal head (codes "NOCOLUMN") k refl t)
 told_reply head KindMismatch k p t = absurd (untold_refusal head (codes "KINDMISMATCH") k refl t)
 told_reply head KeyColumn k p t = absurd (untold_refusal head (codes "KEYCOLUMN") k refl t)
@@ -67,6 +72,10 @@ told_reply head RowTooWide k p t = absurd (untold_refusal head (codes "ROWTOOWID
 told_reply head TooManyWrites k p t = absurd (untold_refusal head (codes "TOOMANYWRITES") k refl t)
 told_reply head Overflow k p t = absurd (untold_refusal head (codes "OVERFLOW") k refl t)
 told_reply head (Halted n) k p t = absurd (untold_refusal head (codes "HALTED " ++ decimal n) k (no_lf-decimal n) t)
+told_reply head (Aged oldest start) k p t =
+    absurd (untold_refusal head (codes "AGED " ++ decimal oldest ++ codes " " ++ decimal start) k
+    (no_lf-append (codes "AGED " ++ decimal oldest ++ codes " ") (decimal start) (no_lf-append (codes "AGED " ++ decimal oldest) (codes " ") (no_lf-decimal oldest) refl) (no_lf-decimal start)) t)
+told_reply head HistoryFull k p t = absurd (untold_refusal head (codes "HISTORYFULL") k refl t)
 told_reply head (Conflict n) k p t = absurd (untold_refusal head (codes "CONFLICT " ++ decimal n) k (no_lf-decimal n) t)
 told_reply head (Full need room) k p t =
     absurd (untold_refusal head (codes "FULL " ++ decimal need ++ codes " " ++ decimal room) k

@@ -11,6 +11,9 @@ use odb_model::{Head, Reply};
 use odb_values::{Bytes, Frozen, Values};
 use std::alloc::{AllocError, Global};
 
+/// How many bytes most replies have at most: one line, or a row and its count.
+const USUAL: usize = 64;
+
 /// The bytes of a reply under its head, each line ended by LF.
 ///
 /// A SELECT's rows come first, and then how many they are. Where a front of the text is said, a
@@ -21,7 +24,7 @@ pub fn print_reply(alloc: Global, head: Head, reply: &Reply) -> Result<Bytes, Re
     ensures text { IfOk result (λ bytes. bytes ≡ reply_text head reply.now) }
     ensures tells { IfOk result (λ bytes. TellsAlone bytes reply.now) }
 {
-    let mut out = String::new(alloc);
+    let mut out = String::with_capacity(alloc, USUAL)?;
     put_reply(&mut out, head, reply)?;
     Ok(Frozen::from_vec(out.into_bytes()))
 }
@@ -49,6 +52,11 @@ fn put_reply(out: &mut String, head: Head, reply: &Reply) -> Result<(), AllocErr
         Reply::NoTransaction => put_line(out, head, "REFUSED NOTRANSACTION"),
         Reply::InTransaction => put_line(out, head, "REFUSED INTRANSACTION"),
         Reply::NoTable => put_line(out, head, "REFUSED NOTABLE"),
+        Reply::NoBank => put_line(out, head, "REFUSED NOBANK"),
+        Reply::NameTaken => put_line(out, head, "REFUSED NAMETAKEN"),
+        Reply::NotEmpty => put_line(out, head, "REFUSED NOTEMPTY"),
+        Reply::NoNumberLeft => put_line(out, head, "REFUSED NONUMBERLEFT"),
+        Reply::Fixed => put_line(out, head, "REFUSED FIXED"),
         Reply::NoColumn => put_line(out, head, "REFUSED NOCOLUMN"),
         Reply::KindMismatch => put_line(out, head, "REFUSED KINDMISMATCH"),
         Reply::KeyColumn => put_line(out, head, "REFUSED KEYCOLUMN"),
@@ -61,7 +69,9 @@ fn put_reply(out: &mut String, head: Head, reply: &Reply) -> Result<(), AllocErr
         Reply::TooManyWrites => put_line(out, head, "REFUSED TOOMANYWRITES"),
         Reply::Overflow => put_line(out, head, "REFUSED OVERFLOW"),
         Reply::Halted(number) => put_number_line(out, head, "REFUSED HALTED ", *number),
+        Reply::Aged { oldest, start } => put_aged_line(out, head, *oldest, *start),
         Reply::Conflict(number) => put_number_line(out, head, "REFUSED CONFLICT ", *number),
+        Reply::HistoryFull => put_line(out, head, "REFUSED HISTORYFULL"),
         Reply::Full { need, room } => put_full_line(out, head, *need, *room),
         Reply::Fault(file) => put_number_line(out, head, "REFUSED FAULT ", u64::from(*file)),
         Reply::Memory => put_line(out, head, "REFUSED MEMORY"),
@@ -97,6 +107,13 @@ fn put_number_line(out: &mut String, head: Head, words: &str, number: u64) -> Re
 }
 
 /// How many bytes a record needs, and how many are left.
+fn put_aged_line(out: &mut String, head: Head, oldest: u64, start: u64) -> Result<(), AllocError>
+    ensures { Appends result out.old out.new (reply_text head (Reply.Aged oldest start)) }
+{
+    put_head(out, head)?;
+    writeln!(out, " REFUSED AGED {oldest} {start}")
+}
+
 fn put_full_line(out: &mut String, head: Head, need: u64, room: u64) -> Result<(), AllocError>
     ensures { Appends result out.old out.new (reply_text head (Reply.Full need room)) }
 {

@@ -169,7 +169,9 @@ impl Sessions<'_> {
     fn ended(&mut self, alloc: Global, session: u32, text: &[u8]) -> Result<(), Stop> {
         let committed = number_behind(text, b"COMMITTED ");
         let ended = number_behind(text, b"ENDED ");
-        let is_over = text.starts_with(b"REFUSED CONFLICT ") || text.starts_with(b"INDOUBT ");
+        let is_over = text.starts_with(b"REFUSED CONFLICT ")
+            || text.starts_with(b"REFUSED AGED ")
+            || text.starts_with(b"INDOUBT ");
         if committed.is_none() && ended.is_none() && !is_over {
             return Ok(());
         }

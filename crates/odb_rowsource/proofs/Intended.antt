@@ -1,14 +1,15 @@
 -- What intentions lay over a state.
-use Rattle.std.proofs.Common.{◌≡◌, ℕ, zero, suc, ◌+◌, ◌<◌, ◌≤◌, Bool, true, false, not, cond, List, [], ◌∷◌, map, length, get_or, refl, sym, ap, subst, ◌∙◌, arith, Option, None, Some}
+use Rattle.std.proofs.Common.{◌≡◌, ℕ, zero, suc, ◌+◌, ◌-◌, ◌<◌, ◌≤◌, Bool, true, false, not, cond, List, [], ◌∷◌, map, length, get_or, refl, sym, ap, subst, ◌∙◌, arith, Option, None, Some}
 use Rattle.std.proofs.Math.ListN.{set}
 use Rattle.std.specs.Prelude.{unwrap_or, option_map}
 use Rattle.std.specs.declared.cmp.Ordering.{Ordering}
 use Rattle.std.specs.declared.cmp.Ordering.TheVariants.{Less, Equal, Greater}
 use Rattle.std.specs.List.{find, slice_get, insert, AllByRecursion}
-use Rattle.std.specs.List.Sorted.{IsStrictlySortedBy}
+use Rattle.std.specs.List.Sorted.{IsStrictlySortedBy, IsPartitionPoint}
 use Rattle.std.specs.Ordering.{eq_by_cmp, is_eq, is_lt, ordering_reverse, match_ordering}
 use Rattle.std.specs.FinMap.{get, same_map}
 use Rattle.std.proofs.lemmas.Cmp.{alike_right, tied_back}
+use Rattle.std.proofs.lemmas.Option.{get_or_from_slice_get}
 use Rattle.std.proofs.lemmas.Map.Keys.{sorted_head, sorted_tail}
 use Rattle.odb_values.specs.declared.value.Value.{Value}
 use Rattle.odb_model.specs.declared.write.Write.{Write}
@@ -18,7 +19,7 @@ use Rattle.odb_values.specs.declared.range.Range.{Range}
 use Rattle.odb_model.specs.State.{State, table_key_cmp, table_key_of, changed, after_writes, is_in}
 use Rattle.odb_rowsource.specs.Stand.{is_from}
 use Rattle.odb_model.specs.Intentions.{intended_write}
-use Rattle.odb_rowsource.specs.Intentions.{laid_over, AreAscending, AreIntentions, intention_at, row_over, next_intention, intention_of_write, put, is_before, is_passed, where_passes, told_at}
+use Rattle.odb_rowsource.specs.Intentions.{laid_over, AreAscending, AreIntentions, intention_at, row_over, next_intention, intention_of_write, put, is_before, comes_before, is_passed, where_passes, told_at}
 use Rattle.odb_model.proofs.Replay.{table_key_cmp_total, table_key_cmp_exact, get-changed_at}
 use Rattle.odb_rowsource.proofs.Splits.{Splits, Splits-tail}
 use Rattle.odb_rowsource.proofs.Splits as splits
@@ -252,6 +253,20 @@ lt_is Greater e = cc
 
 pub before-down : (k : TableKey) (a b : Intention) → table_key_cmp a.table_key b.table_key ≡ Less → is_before k b ≡ true → is_before k a ≡ true
 before-down k a b less e = ap is_lt (table_key_cmp_total.trans a.table_key b.table_key k less (lt_is (table_key_cmp b.table_key k) e))
+
+last_before : (k : TableKey) (intentions : List Intention) (o : Option Intention) (d : Intention) → slice_get intentions (length intentions - 1) ≡ o → comes_before k o ≡ true
+    → is_before k (get_or intentions (length intentions - 1) d) ≡ true
+last_before k intentions None d e before = cc
+last_before k intentions (Some i) d e before = ap (is_before k) (get_or_from_slice_get intentions (length intentions - 1) i d e) ∙ before
+
+-- where the last comes before a table key all do
+pub all_before : (k : TableKey) (intentions : List Intention) → AreAscending intentions → comes_before k (slice_get intentions (length intentions - 1)) ≡ true
+    → IsPartitionPoint (λ i. is_before k i ≡ true) (λ i. is_before k i ≡ false) intentions (length intentions)
+all_before k intentions h before = (
+  λ j d low high. parted (is_before k) (before-down k) intentions h j (length intentions - 1) d (omega arith) (omega arith)
+      (last_before k intentions (slice_get intentions (length intentions - 1)) d refl before),
+  λ j d low high. absurd (omega arith),
+)
 
 not_up : (p q : Bool) → (p ≡ true → q ≡ true) → not q ≡ true → not p ≡ true
 not_up true q up e = let no : not true ≡ true = ap not (sym (up refl)) ∙ e in cc

@@ -5,3 +5,4 @@ pub mod Nexts
 pub mod Laid
 pub mod Kept
 pub mod Walks
+pub mod Above

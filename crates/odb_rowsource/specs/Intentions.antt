@@ -1,5 +1,5 @@
 -- A transaction's intentions, kept in the order of their table keys and laid over rows.
-use Rattle.std.specs.Prelude.{◌≡◌, ◌≤◌, Bool, ◌&&◌, List, [], ◌∷◌, map, length, Option, Some, None, option_map, unwrap_or, is_some, IsTrue, not, if◌then◌else◌}
+use Rattle.std.specs.Prelude.{◌≡◌, ◌≤◌, Bool, false, ◌&&◌, List, [], ◌∷◌, map, length, Option, Some, None, option_map, unwrap_or, is_some, IsTrue, not, if◌then◌else◌}
 use Rattle.std.specs.List.{find}
 use Rattle.std.specs.List.Sorted.{IsStrictlySortedBy}
 use Rattle.std.specs.Ordering.{eq_by_cmp, is_lt, match_ordering}
@@ -72,6 +72,11 @@ Tells was_there writes s =
 -- whether an intention comes before a table key
 abbrev pub is_before : TableKey → Intention → Bool
 is_before at i = is_lt (table_key_cmp i.table_key at)
+
+-- whether there is an intention and it comes before a table key
+abbrev pub comes_before : TableKey → Option Intention → Bool
+comes_before at None = false
+comes_before at (Some i) = is_before at i
 
 -- whether an intention comes before a range, or at or before the key `after` of its table
 abbrev pub is_passed : Range → Option (List Value) → Intention → Bool

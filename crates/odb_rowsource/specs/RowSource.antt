@@ -1,6 +1,6 @@
 -- What a source of rows tells and answers.
 use Rattle.std.specs.Prelude.{ℕ, ◌≤◌, Bool, true, List, map, Option, None, Some, option_map}
-use Rattle.std.specs.List.{find}
+use Rattle.std.specs.List.{find, filter}
 use Rattle.std.specs.Ordering.{is_lt}
 use Rattle.std.specs.FinMap.{get, entries}
 use Rattle.odb_values.specs.declared.value.Value.{Value}
@@ -33,6 +33,14 @@ next_in range after s =
 -- all rows of a range with their keys, in key order
 abbrev pub rows_in : Range → State → List KeyedRow
 rows_in range s = map keyed_row (entries (part_in range s))
+
+-- a row of this table, with its table key
+abbrev pub entry_of : ℕ → KeyedRow → TableKey × List Value
+entry_of table r = (record { table = table; key = r.key }, r.row)
+
+-- the rows of a range whose keys are above `after`, in key order; all where that is None
+abbrev pub rows_above : Range → Option (List Value) → State → List (TableKey × List Value)
+rows_above range after s = filter (λ e. is_above after e.0.key) (entries (part_in range s))
 
 -- no file's count of faults fell
 abbrev pub NoneFell : (ℕ → ℕ) → (ℕ → ℕ) → Type 0

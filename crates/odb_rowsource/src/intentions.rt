@@ -8,7 +8,7 @@ ghost use Rattle.odb_model.specs.declared.table_key.TableKey.{TableKey};
 ghost use Rattle.odb_model.specs.State.{table_key_cmp, table_key_of, is_in};
 ghost use Rattle.odb_model.specs.Meaning.{most_writes};
 ghost use Rattle.odb_model.specs.Intentions.{intended_write, leaves_write, intended};
-ghost use Rattle.odb_rowsource.specs.Intentions.{AreAscending, AreIntentions, intention_at, next_intention, intention_of_write, put, put_all, is_before, is_passed, where_passes, told_at};
+ghost use Rattle.odb_rowsource.specs.Intentions.{AreAscending, AreIntentions, intention_at, next_intention, intention_of_write, put, put_all, is_before, comes_before, is_passed, where_passes, told_at};
 
 use crate::standing::{cmp_table_keys, is_from};
 use odb_model::{Intention, TableKey, Write, Writes};
@@ -125,7 +125,7 @@ impl Intentions {
     /// rows were there before it, as of an INSERT none were and of an UPDATE or a DELETE all were.
     ///
     /// The condition `few` is that of the statement, as for `put`. Writes in ascending order that
-    /// come behind all intentions move none.
+    /// come behind all intentions move none, and take no search.
     pub fn put_all(&mut self, writes: Writes, was_there: bool)
         requires places { length writes ≤ self.old.spare }
         requires few { length (put_all self.old.items writes (λ _. was_there)) ≤ most_writes }
@@ -144,7 +144,7 @@ impl Intentions {
     pub fn net_writes(&self, alloc: Global) -> Result<Writes, AllocError>
         ensures { IfOk result (λ writes. writes ≡ intended self.now.items) }
     {
-        let mut writes = Vec::new(alloc);
+        let mut writes = Vec::with_capacity(alloc, self.len())?;
         for intention in self.as_slice() {
             if leaves_write(intention) {
                 writes.push(intended_write(alloc, intention)?)?;
@@ -229,7 +229,7 @@ fn put_among(items: &mut Vec<Intention>, write: Write, was_there: bool)
     ensures capacity { vec_capacity items.old ≤ vec_capacity items.new }
 {
     let slice = items.as_slice();
-    let place = place_among(slice, write.table, &write.key);
+    let place = place_to_put(slice, write.table, &write.key);
     match told_at(slice, place, &write) {
         Some(told) => {
             items[place] = intention_of_write(write, told);
@@ -271,6 +271,35 @@ fn told_of(i: &Intention, write: &Write) -> Option<bool>
         Some(i.was_there)
     } else {
         None
+    }
+}
+
+/// At which place a table key is or would be: behind all where the last one is before it, so that
+/// writes in ascending order take no search, else by a binary search.
+fn place_to_put(items: &[Intention], table: u32, key: &Key) -> usize
+    requires { AreAscending items.now }
+    ensures within { result ≤ length items.now }
+    ensures splits { let at : TableKey = record { table = table; key = key.now } in
+        IsPartitionPoint (λ i. is_before at i ≡ true) (λ i. is_before at i ≡ false)
+        items.now result }
+{
+    let count = items.len();
+    if comes_before(item(items, count.saturating_sub(1)), table, key) {
+        return count;
+    }
+    place_among(items, table, key)
+}
+
+/// Whether there is an intention and it comes before a table key.
+fn comes_before(found: Option<&Intention>, table: u32, key: &Key) -> bool
+    ensures { let at : TableKey = record { table = table; key = key.now } in
+        result ≡ comes_before at (option_copied found.entry) }
+{
+    match found {
+        None => false,
+        Some(i) => {
+            cmp_table_keys(i.table_key.table, &i.table_key.key, table, key) == Ordering::Less
+        }
     }
 }
 

@@ -9,10 +9,12 @@ mod intentions;
 mod laws;
 mod overlay;
 mod row_source;
+mod shown;
 mod standing;
 
 pub use intentions::Intentions;
 pub use laws::{intends_as_it_writes, lays_rows_over, walks_a_range};
-pub use overlay::Overlay;
+pub use overlay::{OverlaidRow, Overlay};
 pub use row_source::{KeyedRow, RowError, RowSource};
+pub use shown::{LentRow, ShownRow};
 pub use standing::{cmp_table_keys, is_from, stand, stands_without_gap};

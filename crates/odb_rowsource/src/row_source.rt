@@ -1,10 +1,11 @@
 //! Where rows are read.
-ghost use Rattle.std.specs.Prelude.{◌≡◌, ℕ, IfOk, IfErr};
+ghost use Rattle.std.specs.Prelude.{◌≡◌, ℕ, IfOk, IfErr, option_map};
 ghost use Rattle.std.specs.Option.{option_copied};
 ghost use Rattle.odb_model.specs.State.{State};
 ghost use Rattle.odb_rowsource.specs.RowSource.{row_at, next_in, NoneFell, HasCause};
 
-use odb_values::{Key, Range, Row};
+use crate::ShownRow;
+use odb_values::{Duplicate, Key, Range, Row};
 use std::alloc::{AllocError, Global};
 
 /// A row of a table with its key.
@@ -38,7 +39,8 @@ impl From<AllocError> for RowError {
     }
 }
 
-/// Where a statement reads rows: a state, read a row at a time.
+/// Where a statement reads rows: a state, read a row at a time. A walk asks for the row above the
+/// last one, by `show` where it only looks at it, by `next` where it keeps it.
 ///
 /// No call changes the state that the source tells. Each refusal is want of memory, or a fault of a
 /// file whose count rose in that call.
@@ -49,6 +51,9 @@ pub trait RowSource {
     /// How many faults of each file there were.
     ghost faults: { Self → ℕ → ℕ };
 
+    /// A row as the source shows it: lent from where it lies, or a copy where it can't be.
+    type Shown: ShownRow + Drop;
+
     /// The row at a table and a key, or None where there is none.
     fn get(&mut self, alloc: Global, table: u32, key: &Key) -> Result<Option<Row>, RowError>
         ensures state { state self.new ≡ state self.old }
@@ -57,7 +62,20 @@ pub trait RowSource {
         ensures cause { IfErr result (HasCause (faults self.old) (faults self.new)) };
 
     /// The row with the least key of a range that is above `after`, or the least of the whole range
-    /// where that is None.
+    /// where that is None, as the source shows it. Where it is lent this copies nothing of it.
+    fn show(
+        &mut self,
+        alloc: Global,
+        range: &Range,
+        after: Option<&Key>,
+    ) -> Result<Option<Self::Shown>, RowError>
+        ensures state { state self.new ≡ state self.old }
+        ensures counts { NoneFell (faults self.old) (faults self.new) }
+        ensures row { IfOk result (λ shown. option_map Self.Shown.keyed shown
+            ≡ next_in range.now (option_copied after.entry) (state self.old)) }
+        ensures cause { IfErr result (HasCause (faults self.old) (faults self.new)) };
+
+    /// A copy of the row that `show` shows.
     fn next(
         &mut self,
         alloc: Global,
@@ -68,5 +86,14 @@ pub trait RowSource {
         ensures counts { NoneFell (faults self.old) (faults self.new) }
         ensures row { IfOk result
             (λ row. row ≡ next_in range.now (option_copied after.entry) (state self.old)) }
-        ensures cause { IfErr result (HasCause (faults self.old) (faults self.new)) };
+        ensures cause { IfErr result (HasCause (faults self.old) (faults self.new)) }
+    {
+        match self.show(alloc, range, after)? {
+            None => Ok(None),
+            Some(shown) => Ok(Some(KeyedRow {
+                key: shown.key().copy(alloc)?,
+                row: shown.row().copy(alloc)?,
+            })),
+        }
+    }
 }

@@ -1,7 +1,10 @@
 mod Owned
-mod Oldest
 mod Items
-mod Sealing
-mod Resting
+mod Late
+mod Holding
+mod Carried
 mod Simulates
+mod Behind
+mod Prepared
+mod Running
 pub mod Keeping

@@ -6,14 +6,13 @@ use Rattle.std.specs.Ordering.{match_ordering}
 use Rattle.std.proofs.lemmas.List.Elements.{All-nil, All-cons, All-head, All-tail, All-map, All-filter}
 use Rattle.odb_values.specs.Key.{IsKey}
 use Rattle.odb_model.specs.declared.write.Write.{Write}
-use Rattle.odb_model.specs.declared.entry.Entry.{Entry}
 use Rattle.odb_model.specs.declared.intention.Intention.{Intention}
 use Rattle.odb_model.specs.declared.statement.Statement.{Statement}
 use Rattle.odb_model.specs.declared.table_key.TableKey.{TableKey}
-use Rattle.odb_model.specs.State.{State, table_key_cmp, table_key_of, replay}
+use Rattle.odb_model.specs.State.{State, table_key_cmp, table_key_of}
 use Rattle.odb_model.specs.Intentions.{intended_write, leaves_write, intended}
 use Rattle.odb_model.specs.Storable.{HaveKeys, HasKeys}
-use Rattle.odb_model.proofs.KeysKept.{writes_keyed, history_keyed}
+use Rattle.odb_model.proofs.KeysKept.{writes_keyed, after_keyed}
 use Rattle.odb_rowsource.specs.Intentions.{laid_over, intention_of_write, put, put_all}
 use Rattle.odb_exec.specs.Written.{keys_written}
 use Rattle.odb_txn.specs.Transaction.{Kept, writes_found_rows}
@@ -42,9 +41,9 @@ put_all_keyed (w ∷ ws) own there keys all =
     put_all_keyed ws (put own w (there (table_key_of w))) there (All-tail IsKeyedWrite w ws keys)
     (put_keyed own w (there (table_key_of w)) (All-head IsKeyedWrite w ws keys) all)
 
--- what lies over the rows of a history has keys
-pub sees_keys : (h : List Entry) (t : Kept) → All (λ e. HaveKeys e.writes) h → HasOwnKeys t → HasKeyedRows (replay h) t
-sees_keys h t keyed own = history_keyed h (map intended_write t.own) keyed (All-map IsKeyedWrite intended_write t.own own)
+-- what lies over rows that have keys has keys
+pub sees_keys : (rows : State) (t : Kept) → HasKeys rows → HasOwnKeys t → HasKeyedRows rows t
+sees_keys rows t keyed own = after_keyed (map intended_write t.own) rows (All-map IsKeyedWrite intended_write t.own own) keyed
 
 -- so what a statement writes there has keys, and the transaction after it
 pub grown_keyed : (s : State) (st : Statement) (t : Kept) (number format : ℕ) → HasKeyedRows s t → HasOwnKeys t → HasOwnKeys (grown_on s st t number format)

@@ -1,46 +1,51 @@
 -- Each change of what a system holds is a step of the machine that it stands for.
-use Rattle.std.proofs.Common.{◌≡◌, ◌≢◌, ℕ, ◌+◌, ◌-◌, ◌<◌, Bool, true, false, ◌==◌, cond, List, [], ◌∷◌, ◌++◌, length, replicate, refl, sym, ap, subst, ◌∙◌, Option, Some, None, arith, zero, suc, append_assoc, add_comm, inl, inr}
+use Rattle.std.proofs.Common.{◌≡◌, ◌≢◌, ℕ, ◌+◌, ◌-◌, ◌<◌, ◌≤◌, Bool, true, false, ◌==◌, cond, List, [], ◌∷◌, ◌++◌, length, replicate, refl, sym, ap, subst, ◌∙◌, Option, Some, None, option_map, arith, zero, suc, inl, inr}
 use Rattle.std.specs.Prelude.{slice_get, slice_set, unwrap_or}
-use Rattle.std.proofs.lemmas.List.{append-nil, length-set}
-use Rattle.std.proofs.lemmas.Bool.{eqb-true}
+use Rattle.std.specs.List.{All}
+use Rattle.std.proofs.lemmas.List.{length-set}
+use Rattle.std.proofs.lemmas.List.Elements.{All-nil}
 use Rattle.std.proofs.lemmas.Bool.Decides.{eqb_tells}
 use Rattle.std.proofs.Math.Seq.{take-length}
-use Rattle.odb_model.specs.declared.write.Write.{Write}
+use Rattle.odb_device.specs.World.{World}
 use Rattle.odb_model.specs.declared.entry.Entry.{Entry}
-use Rattle.odb_model.specs.declared.control.Control.{Control as Upkeep}
-use Rattle.odb_model.specs.declared.event.Event.TheVariants.{Session as OfSession, Control as OfUpkeep}
+use Rattle.odb_model.specs.declared.event.Event.TheVariants.{Session as OfSession}
 use Rattle.odb_model.specs.declared.reply.Reply.{Reply}
 use Rattle.odb_model.specs.declared.outcome.Outcome.{Outcome}
-use Rattle.odb_model.specs.declared.reply.Reply.TheVariants.{Okay, InDoubt, NotYet, NoTransaction, InTransaction, Fault, Memory, Committed}
+use Rattle.odb_model.specs.declared.reply.Reply.TheVariants.{Okay, Committed, InDoubt, Halted, NotYet, NoTransaction, InTransaction, Fault, Memory}
 use Rattle.odb_model.specs.declared.statement.Statement.{Statement}
 use Rattle.odb_model.specs.declared.statement.Statement.TheVariants.{Start, Commit, Select, Insert, Rollback, Update, Delete, CreateDatabank, CreateTable, DropTable, CreateShadow, ShadowOnline, ShadowOffline, ShadowMaster, DropShadow, CreateBackup, BackupReady, DropBackup, Restore}
-use Rattle.odb_model.specs.State.{after_writes, replay, IsHistory}
+use Rattle.odb_model.specs.State.{State, after_writes, replay, IsHistory}
 use Rattle.odb_model.specs.Meaning.{Meaning, meaning}
 use Rattle.odb_model.specs.Reads.{reads}
-use Rattle.odb_model.specs.Transaction.{Executed, meaning_over, open_state, open_meaning, write_set_of, reads_of, net, first_conflict, conflict}
-use Rattle.odb_model.specs.Intentions.{intended}
+use Rattle.odb_model.specs.Transaction.{Executed, meaning_over, open_meaning, read_at}
 use Rattle.odb_model.specs.Script.{IsSession}
+use Rattle.odb_model.specs.Definitions.{Planned, Refused, Plans, planned}
 use Rattle.odb_model.specs.Session.{Session, Idle, Working}
-use Rattle.odb_model.specs.Book.{Book, Seen, Verdict, by_net, by_doubt, verdict, next_entry, Decides, ends_transaction}
+use Rattle.odb_model.specs.Book.{Book, Seen, Verdict, verdict, next_entry, Seals, Decides, DefinesBy, Defines, ends_transaction}
 use Rattle.odb_model.specs.Book as book
-use Rattle.odb_model.specs.Machine.{Machine, first_machine, with_session, book_of, with_book, behind, writes_made, executed_now, Starts, Executes, Commits, RollsBack, StatementStep, Step}
+use Rattle.odb_model.specs.Machine.{Machine, first_machine, with_session, book_of, with_book, behind, writes_made, executed_now, Starts, Executes, Commits, RollsBack, DefinesIn, StatementStep, Step}
 use Rattle.odb_model.specs.Serial.{SessionAnsweredFromSnapshots, AnsweredFromSnapshots}
 use Rattle.odb_model.proofs.Meant.{is_meant}
-use Rattle.odb_model.proofs.Runs.{Grows, decides_grow, answered_first, answered_step, not_meant, IsNumberedFrom-snoc}
+use Rattle.odb_model.proofs.Refusals.{is_refusal, not_refused}
+use Rattle.odb_model.proofs.Runs.{Grows, decides_grow, defines_grow, answered_first, answered_step, not_meant}
 use Rattle.odb_model.proofs.Runs as model_runs
-use Rattle.odb_device.specs.World.{World}
 use Rattle.odb_transdb.specs.declared.header.Header.{Header}
 use Rattle.odb_transdb.specs.Standing.{Db}
 use Rattle.odb_rowsource.specs.Intentions.{laid_over}
 use Rattle.odb_exec.specs.Written.{keys_written}
-use Rattle.odb_txn.specs.Transaction.{Kept, nothing_kept, IsNextOutcome, StandsFor as StandsForTransaction}
-use Rattle.odb_txn.proofs.Alike.{conflict_alike}
-use Rattle.odb_txn.proofs.Stands.{stands_begin, stands_grow, stands_last, stands_net}
+use Rattle.odb_validate.specs.Window.{Windowed}
+use Rattle.odb_validate.proofs.Windows.{IsWindow-last}
+use Rattle.odb_txn.specs.Transaction.{Kept, nothing_kept, kept_with, IsNextOutcome, StandsFor as StandsForTransaction}
+use Rattle.odb_txn.proofs.Stands.{stands_begin, stands_grow, stands_last}
 use Rattle.odb_txn.proofs.Counted.{means_now, laid_now}
-use Rattle.odb_system.specs.Open.{outcome_on, grown_on, Shows}
-use Rattle.odb_system.specs.Held.{Held, none_open, session_at, with_open, book_in, meaning_in, grown, told_by, verdict_in, IsDecided, HeldStarts, HeldRollsBack, HeldExecutes, HeldCommits, HeldRuns, sides_of, StandsFor, HasCauses, Follows}
-use Rattle.odb_device.proofs.Time.{rose_behind}
-use Rattle.odb_system.specs.Durable.{Risen, FaultRose, CausedBy, HeldWrites}
+use Rattle.odb_commit.specs.Parts.{Parts, Preparation, count, prepared, entry_after, sealing_of}
+use Rattle.odb_commit.specs.Standing.{StandsFor as BookStandsFor, Fills, sides_of, preparation_of, sealing_in}
+use Rattle.odb_commit.proofs.Judging.{prepared_same, sealing_same}
+use Rattle.odb_commit.proofs.Following.{begins as begins_book}
+use Rattle.odb_system.specs.Open.{outcome_on, Shows}
+use Rattle.odb_system.specs.Held.{Held, Begins, none_open, session_at, with_open, format_in, meaning_in, grown, told_by, ComesTo, StaysBook, CarriesOut, HeldStarts, HeldRollsBack, HeldExecutes, HeldCommits, HeldDefinesBy, HeldDefines, HeldRuns, StandsFor}
+use Rattle.odb_system.proofs.Late.{IsLate, late_all, late_at}
+use Rattle.odb_system.proofs.Carried.{is_plain, Moved, Effect, still, seals, Keeps, Went, stays, carries, carries_verdict}
 
 slice_get-set_same : {A : Type 0} (xs : List A) (i : ℕ) (x : A) → i < length xs → slice_get (slice_set xs i x) i ≡ Some x
 slice_get-set_same [] i x within = absurd (omega arith)
@@ -55,393 +60,396 @@ slice_get-set_other (y ∷ xs) (suc i) zero x other = refl
 slice_get-set_other (y ∷ xs) (suc i) (suc j) x other = slice_get-set_other xs i j x (λ same. other (ap suc same))
 
 -- each session's place shows what the machine has of it
-abbrev ShowAll : List (Option Kept) → List Entry → ℕ → (ℕ → Session) → Type 0
-ShowAll xs h format sessions = (s : ℕ) → IsSession s → Shows h format s (unwrap_or (slice_get xs (s - 1)) None) (sessions s)
+abbrev ShowAll : ℕ → List (Option Kept) → List Entry → ℕ → (ℕ → Session) → Type 0
+ShowAll since xs h format sessions = (s : ℕ) → IsSession s → Shows since h format s (unwrap_or (slice_get xs (s - 1)) None) (sessions s)
 
-shows_with : (xs : List (Option Kept)) (m : Machine) (s : ℕ) (x : Option Kept) (t : Session) → length xs ≡ 64 → IsSession s → ShowAll xs m.history m.format m.sessions
-    → Shows m.history m.format s x t → ShowAll (slice_set xs (s - 1) x) m.history m.format (with_session m s t).sessions
-shows_with xs m s x t count in_range shows here q is =
+shows_with : (since : ℕ) (xs : List (Option Kept)) (m : Machine) (s : ℕ) (x : Option Kept) (t : Session) → length xs ≡ 64 → IsSession s → ShowAll since xs m.history m.format m.sessions
+    → Shows since m.history m.format s x t → ShowAll since (slice_set xs (s - 1) x) m.history m.format (with_session m s t).sessions
+shows_with since xs m s x t count in_range shows here q is =
     let put : List (Option Kept) = slice_set xs (s - 1) x in
-    elim (eqb_tells q s) as (λ w. Shows m.history m.format q (unwrap_or (slice_get put (q - 1)) None) (cond (q == s) t (m.sessions q))) [
+    elim (eqb_tells q s) as (λ w. Shows since m.history m.format q (unwrap_or (slice_get put (q - 1)) None) (cond (q == s) t (m.sessions q))) [
       | inl same ↦
           let place : q - 1 ≡ s - 1 = omega arith in
           let within : s - 1 < length xs = omega arith in
           let found : unwrap_or (slice_get put (q - 1)) None ≡ x = ap (λ o. unwrap_or o None) (ap (slice_get put) place ∙ slice_get-set_same xs (s - 1) x within) in
-          let of_q : Shows m.history m.format q x t = subst (λ (k : ℕ). Shows m.history m.format k x t) (sym same.1) here in
-          subst (λ (o : Option Kept). Shows m.history m.format q o (cond (q == s) t (m.sessions q))) (sym found)
-          (subst (λ (b : Bool). Shows m.history m.format q x (cond b t (m.sessions q))) (sym same.0) of_q)
+          let of_q : Shows since m.history m.format q x t = subst (λ (k : ℕ). Shows since m.history m.format k x t) (sym same.1) here in
+          subst (λ (o : Option Kept). Shows since m.history m.format q o (cond (q == s) t (m.sessions q))) (sym found)
+          (subst (λ (b : Bool). Shows since m.history m.format q x (cond b t (m.sessions q))) (sym same.0) of_q)
       | inr other ↦
           let apart : q - 1 ≢ s - 1 = λ e. other.1 (omega arith) in
           let found : unwrap_or (slice_get put (q - 1)) None ≡ unwrap_or (slice_get xs (q - 1)) None = ap (λ o. unwrap_or o None) (slice_get-set_other xs (s - 1) (q - 1) x apart) in
-          subst (λ (o : Option Kept). Shows m.history m.format q o (cond (q == s) t (m.sessions q))) (sym found)
-          (subst (λ (b : Bool). Shows m.history m.format q (unwrap_or (slice_get xs (q - 1)) None) (cond b t (m.sessions q))) (sym other.0) (shows q is))
+          subst (λ (o : Option Kept). Shows since m.history m.format q o (cond (q == s) t (m.sessions q))) (sym found)
+          (subst (λ (b : Bool). Shows since m.history m.format q (unwrap_or (slice_get xs (q - 1)) None) (cond b t (m.sessions q))) (sym other.0) (shows q is))
     ]
 
 -- what is kept of a session stands for it behind a longer history too
-shows_longer : (h more : List Entry) (format s : ℕ) (x : Option Kept) (o : Session) → SessionAnsweredFromSnapshots h o format → Shows h format s x o → Shows (h ++ more) format s x o
-shows_longer h more format s None Idle f shows = tt
-shows_longer h more format s None (Working t) f shows = absurd shows
-shows_longer h more format s (Some kept) Idle f shows = absurd shows
-shows_longer h more format s (Some kept) (Working t) f shows = (shows.0, stands_last kept h more t format f shows.1)
+shows_longer : (since : ℕ) (h more : List Entry) (format s : ℕ) (x : Option Kept) (o : Session) → SessionAnsweredFromSnapshots h o format → Shows since h format s x o → Shows since (h ++ more) format s x o
+shows_longer since h more format s None Idle f shows = tt
+shows_longer since h more format s None (Working t) f shows = absurd shows
+shows_longer since h more format s (Some kept) Idle f shows = absurd shows
+shows_longer since h more format s (Some kept) (Working t) f shows = (shows.0, stands_last kept h more t format f shows.1, shows.2)
 
--- a verdict doesn't ask for the writes of a transaction that conflicts, or while an entry is in doubt
-same_verdict : (d : Option Entry) (later : Option ℕ) (n : ℕ) (ws vs : List Write) → (later ≡ None → ws ≡ vs) → by_doubt d later n ws ≡ by_doubt d later n vs
-same_verdict (Some e) later n ws vs same = refl
-same_verdict None (Some j) n ws vs same = refl
-same_verdict None None n ws vs same = ap (by_net n) (same refl)
+-- a step of the machine to one that the system stands for, with what it did to the log
+pub record Goes (m : Machine) (s : ℕ) (st : Statement) (reply : Reply) (held after : Held) (old new : World) : Type 0 where
+  pub next : Machine
+  pub step : Step m (OfSession s st) (told_by reply) reply next
+  pub stands : StandsFor after next
+  pub format : next.format ≡ m.format
+  pub effect : Effect held (book_of m) reply after (book_of next) old new
 
--- what a system holds that has the machine's history and entry in doubt
-abbrev held_of : Machine → List (Option Kept) → Db → Held
-held_of m xs db = record { history = m.history; sessions = xs; transdb = db; in_doubt = m.in_doubt }
-
-caused : (reply : Reply) (old new : World) → FaultRose reply old new → HasCauses (Risen old new) (told_by reply)
-caused (Fault f) old new rose = record { rose_has = λ file risen. subst (Risen old new) (sym (eqb-true file f risen)) rose; before_has = λ e. subst (Risen old new) (eqb-true f 0 e) rose; at_has = λ e. cc }
-caused (InDoubt k) old new rose = record { rose_has = λ file risen. subst (Risen old new) (sym (eqb-true file 0 risen)) rose; before_has = λ e. cc; at_has = λ e. rose }
-caused reply old new rose = record { rose_has = λ file risen. cc; before_has = λ e. cc; at_has = λ e. cc }
-
--- what is the cause of a reply raised the count
-pub rose_of_cause : (before : Held) (reply : Reply) (after : Held) (old new : World) → CausedBy before reply after old new → FaultRose reply old new
-rose_of_cause before (Fault f) after old new cause = cause
-rose_of_cause before (InDoubt k) after old new cause = rose_behind 0 0 old cause.rose.mid new cause.rose.before.only cause.rose.rose
-rose_of_cause before reply after old new cause = tt
-
--- a step of the machine to one that the system stands for
-record Goes (m : Machine) (s : ℕ) (st : Statement) (reply : Reply) (held : Held) : Type 0 where
-  after : Machine
-  step : Step m (OfSession s st) (told_by reply) reply after
-  stands : StandsFor held after
-
--- no verdict is answered by MEMORY
+-- no verdict is answered by MEMORY, nor a definition
 no_memory : (b : Book) (seen : Seen) (s : ℕ) (v : Verdict) (after : Book) → Decides b seen s v Memory after → ⊥
 no_memory b seen s (book.Halted k) after decides = decides
+no_memory b seen s (book.Aged o k) after decides = decides
 no_memory b seen s (book.Conflict j) after decides = decides
 no_memory b seen s (book.Ended p) after decides = decides
 no_memory b seen s (book.Writes writes) after decides = decides
+
+no_memory_defined : (d : Option Entry) (b : Book) (seen : Seen) (s : ℕ) (st : Statement) (rows : State) (p : Planned) (after : Book) → planned st rows ≡ p → DefinesBy d b seen s p Memory after → ⊥
+unfolding is_refusal
+no_memory_defined (Some x) b seen s st rows p after is defines = let no : Memory ≡ Halted x.number = defines.0 in cc
+no_memory_defined None b seen s st rows (Refused why) after is defines = not_refused st rows Memory refl (is ∙ ap Refused (sym defines.0))
+no_memory_defined None b seen s st rows (Plans writes) after is defines = defines
 
 commit_runs : (m : Machine) (s : ℕ) (seen : Seen) (t : List Executed) (reply : Reply) (b : Book) → m.sessions s ≡ Working t
     → Decides (book_of m) seen s (verdict (book_of m) t m.format) reply b → Commits m s seen (m.sessions s) reply (behind m s reply b)
 commit_runs m s seen t Memory b e decides = absurd (no_memory (book_of m) seen s (verdict (book_of m) t m.format) b decides)
 commit_runs m s seen t reply b e decides = subst (λ (o : Session). Commits m s seen o reply (behind m s reply b)) (sym e) (b, decides, refl)
 
-module _ (m : Machine) (s : ℕ) (in_range : IsSession s) (xs : List (Option Kept)) (db : Db) (count : length xs ≡ 64)
-    (shows : ShowAll xs m.history m.format m.sessions) (sides : m.sides ≡ sides_of db.header) (format : m.format ≡ db.header.format) (answered : AnsweredFromSnapshots m) where
-  abbrev now : Held
-  now = held_of m xs db
+define_runs : (m : Machine) (s : ℕ) (seen : Seen) (st : Statement) (reply : Reply) (b : Book) → m.sessions s ≡ Idle
+    → Defines (book_of m) seen s st reply b → DefinesIn m s seen st (m.sessions s) reply (with_book m b)
+define_runs m s seen st Memory b e defines = absurd (no_memory_defined m.in_doubt (book_of m) seen s st (replay m.history) (planned st (replay m.history)) b refl defines)
+define_runs m s seen st reply b e defines = subst (λ (o : Session). DefinesIn m s seen st o reply (with_book m b)) (sym e) (b, defines, refl)
 
+-- a statement on rows tells of no entry and of no fault
+meant_plain : (reply : Reply) → is_meant reply ≡ true → is_plain reply ≡ true
+unfolding is_meant is_plain
+meant_plain (Committed k) is = cc
+meant_plain (Fault f) is = cc
+meant_plain (InDoubt k) is = cc
+meant_plain reply is = refl
+
+meaning_plain : (reply : Reply) (st : Statement) (s : State) (t : Kept) (format : ℕ) → reply ≡ (meaning st (laid_over s t.own) (keys_written t.own) format).reply → is_plain reply ≡ true
+meaning_plain reply st s t format same = meant_plain reply (by (is_meant reply) refl)
+  where
+    by : (c : Bool) → is_meant reply ≡ c → is_meant reply ≡ true
+    by true is = is
+    by false is = absurd (not_meant reply st (laid_over s t.own) (keys_written t.own) format is same)
+
+-- nor does what refuses a definition
+refusal_plain : (reply : Reply) → is_refusal reply ≡ true → is_plain reply ≡ true
+unfolding is_refusal is_plain
+refusal_plain (Committed k) is = cc
+refusal_plain (Fault f) is = cc
+refusal_plain (InDoubt k) is = cc
+refusal_plain reply is = refl
+
+refused_plain : (st : Statement) (s : State) (why : Reply) → planned st s ≡ Refused why → is_plain why ≡ true
+refused_plain st s why is = refusal_plain why (by (is_refusal why) refl)
+  where
+    by : (c : Bool) → is_refusal why ≡ c → is_refusal why ≡ true
+    by true same = same
+    by false same = absurd (not_refused st s why same is)
+
+module _ (m : Machine) (s : ℕ) (in_range : IsSession s) (held : Held) (stands : StandsFor held m) where
   -- the machine goes on to the one with this session
-  goes_with : (st : Statement) (reply : Reply) (x : Option Kept) (t : Session) (held : Held) → StatementStep m s (told_by reply) st reply (with_session m s t)
-      → Shows m.history m.format s x t → held ≡ with_open now (s - 1) x → Goes m s st reply held
-  goes_with st reply x t held step here same =
-      let stands : StandsFor (with_open now (s - 1) x) (with_session m s t) = record {
-        history = refl;
-        sides = sides;
-        in_doubt = refl;
-        format = format;
-        count = length-set xs (s - 1) x ∙ count;
-        each = shows_with xs m s x t count in_range shows here;
-        answered = answered_step m s st (told_by reply) reply (with_session m s t) answered step;
+  goes_with : (st : Statement) (reply : Reply) (x : Option Kept) (t : Session) (after : Held) (old new : World) → StatementStep m s (told_by reply) st reply (with_session m s t)
+      → Shows stands.since m.history m.format s x t → is_plain reply ≡ true → ComesTo (with_open held (s - 1) x) after old new → Goes m s st reply held after old new
+  goes_with st reply x t after old new step here plain comes =
+      let there : StandsFor (with_open held (s - 1) x) (with_session m s t) = record {
+        since = stands.since;
+        book = stands.book;
+        rows = stands.rows;
+        format = stands.format;
+        count = length-set held.sessions (s - 1) x ∙ stands.count;
+        each = shows_with stands.since held.sessions m s x t stands.count in_range stands.each here;
+        answered = answered_step m s st (told_by reply) reply (with_session m s t) stands.answered step;
       } in
-      record { after = with_session m s t; step = step; stands = subst (λ (h : Held). StandsFor h (with_session m s t)) (sym same) stands }
-
-  stands_now : StandsFor now m
-  stands_now = record { history = refl; sides = sides; in_doubt = refl; format = format; count = count; each = shows; answered = answered }
+      record {
+        next = with_session m s t;
+        step = step;
+        stands = subst (λ (h : Held). StandsFor h (with_session m s t)) (sym comes.0) there;
+        format = refl;
+        effect = still comes.1 plain refl;
+      }
 
   -- the machine stays
-  stays : (st : Statement) (reply : Reply) (held : Held) → Step m (OfSession s st) (told_by reply) reply m → held ≡ now → Goes m s st reply held
-  stays st reply held step same = record { after = m; step = step; stands = subst (λ (h : Held). StandsFor h m) (sym same) stands_now }
+  goes_nowhere : (st : Statement) (reply : Reply) (after : Held) (old new : World) → Step m (OfSession s st) (told_by reply) reply m → is_plain reply ≡ true → ComesTo held after old new
+      → Goes m s st reply held after old new
+  goes_nowhere st reply after old new step plain comes = record {
+    next = m;
+    step = step;
+    stands = subst (λ (h : Held). StandsFor h m) (sym comes.0) stands;
+    format = refl;
+    effect = still comes.1 plain refl;
+  }
 
-  starts : (x : Option Kept) (o : Session) (reply : Reply) (held : Held) → m.sessions s ≡ o → Shows m.history m.format s x o → HeldStarts now (s - 1) x reply held → Goes m s Start reply held
-  starts None Idle Okay held e here step =
-      goes_with Start Okay (Some (nothing_kept (s - 1 + 1))) (Working []) held (subst (λ (o : Session). Starts m s o Okay (with_session m s (Working []))) (sym e) refl)
-      (omega arith, stands_begin (s - 1 + 1) m.history m.format) step
-  starts (Some kept) (Working t) InTransaction held e here step = stays Start InTransaction held (subst (λ (o : Session). Starts m s o InTransaction m) (sym e) refl) step
-  starts None (Working t) reply held e here step = absurd here
-  starts (Some kept) Idle reply held e here step = absurd here
-  starts None Idle reply held e here step = absurd step
-  starts (Some kept) (Working t) reply held e here step = absurd step
+  starts : (x : Option Kept) (o : Session) (reply : Reply) (after : Held) (old new : World) → m.sessions s ≡ o → Shows stands.since m.history m.format s x o → HeldStarts held (s - 1) x reply after old new
+      → Goes m s Start reply held after old new
+  unfolding is_plain
+  starts None Idle Okay after old new e here step =
+      goes_with Start Okay (Some (nothing_kept (s - 1 + 1))) (Working []) after old new (subst (λ (o : Session). Starts m s o Okay (with_session m s (Working []))) (sym e) refl)
+      (omega arith, stands_begin (s - 1 + 1) m.history m.format, All-nil (IsLate stands.since)) refl step
+  starts (Some kept) (Working t) InTransaction after old new e here step = goes_nowhere Start InTransaction after old new (subst (λ (o : Session). Starts m s o InTransaction m) (sym e) refl) refl step
+  starts None (Working t) reply after old new e here step = absurd here
+  starts (Some kept) Idle reply after old new e here step = absurd here
+  starts None Idle reply after old new e here step = absurd step
+  starts (Some kept) (Working t) reply after old new e here step = absurd step
 
-  rolls_back : (x : Option Kept) (o : Session) (reply : Reply) (held : Held) → m.sessions s ≡ o → Shows m.history m.format s x o → HeldRollsBack now (s - 1) x reply held → Goes m s Rollback reply held
-  rolls_back None Idle NoTransaction held e here step = stays Rollback NoTransaction held (subst (λ (o : Session). RollsBack m s o NoTransaction m) (sym e) refl) step
-  rolls_back (Some kept) (Working t) Okay held e here step =
-      goes_with Rollback Okay None Idle held (subst (λ (o : Session). RollsBack m s o Okay (with_session m s Idle)) (sym e) refl) tt step
-  rolls_back None (Working t) reply held e here step = absurd here
-  rolls_back (Some kept) Idle reply held e here step = absurd here
-  rolls_back None Idle reply held e here step = absurd step
-  rolls_back (Some kept) (Working t) reply held e here step = absurd step
+  rolls_back : (x : Option Kept) (o : Session) (reply : Reply) (after : Held) (old new : World) → m.sessions s ≡ o → Shows stands.since m.history m.format s x o
+      → HeldRollsBack held (s - 1) x reply after old new → Goes m s Rollback reply held after old new
+  unfolding is_plain
+  rolls_back None Idle NoTransaction after old new e here step = goes_nowhere Rollback NoTransaction after old new (subst (λ (o : Session). RollsBack m s o NoTransaction m) (sym e) refl) refl step
+  rolls_back (Some kept) (Working t) Okay after old new e here step =
+      goes_with Rollback Okay None Idle after old new (subst (λ (o : Session). RollsBack m s o Okay (with_session m s Idle)) (sym e) refl) tt refl step
+  rolls_back None (Working t) reply after old new e here step = absurd here
+  rolls_back (Some kept) Idle reply after old new e here step = absurd here
+  rolls_back None Idle reply after old new e here step = absurd step
+  rolls_back (Some kept) (Working t) reply after old new e here step = absurd step
+
+  counted : count held.book ≡ length m.history
+  counted = IsWindow-last stands.since m.history held.book.window stands.book.window
 
   -- what a statement means to the system is what it means to the machine
-  module _ (st : Statement) (kept : Kept) (t : List Executed) (stands : StandsForTransaction kept m.history t m.format) where
+  module _ (st : Statement) (kept : Kept) (t : List Executed) (open_stands : StandsForTransaction kept m.history t m.format) where
     abbrev meant : Meaning
     meant = open_meaning st (length m.history) (writes_made m t) m.history m.format
 
-    same_meaning : meaning_in now st kept ≡ meant
+    same_meaning : meaning_in held st kept ≡ meant
     same_meaning =
-        ap (meaning st (laid_over (replay m.history) kept.own) (keys_written kept.own)) (sym format)
-        ∙ means_now kept m.history t st m.format stands
+        (λ i. meaning st (laid_over (stands.rows i) kept.own) (keys_written kept.own) (sym stands.format i))
+        ∙ means_now kept m.history t st m.format open_stands
         ∙ ap (λ h. meaning_over st (replay h) (writes_made m t) m.format) (sym (take-length m.history))
 
     abbrev outcome : Outcome
-    outcome = outcome_on (replay m.history) st kept db.header.format
+    outcome = outcome_on held.rows st kept (format_in held)
 
-    next : IsNextOutcome m.history t (executed_now m st t) m.format outcome
-    next = record {
+    next_outcome : IsNextOutcome m.history t (executed_now m st t) m.format outcome
+    next_outcome = record {
       writes = ap (λ (x : Meaning). x.writes) same_meaning;
-      reads = ap (reads st) (laid_now kept m.history t m.format stands ∙ ap (λ h. after_writes (replay h) (writes_made m t)) (sym (take-length m.history)));
+      reads = ap (reads st) (ap (λ (rows : State). laid_over rows kept.own) stands.rows ∙ laid_now kept m.history t m.format open_stands ∙ ap (λ h. after_writes (replay h) (writes_made m t)) (sym (take-length m.history)));
     }
 
-    same_grown : StandsForTransaction (grown now st kept) m.history (t ++ executed_now m st t ∷ []) m.format
-    same_grown = stands_grow kept m.history t (executed_now m st t) m.format outcome stands next
+    same_grown : StandsForTransaction (grown held st kept) m.history (t ++ executed_now m st t ∷ []) m.format
+    same_grown =
+        subst (λ (n : ℕ). StandsForTransaction (kept_with kept st outcome n) m.history (t ++ executed_now m st t ∷ []) m.format) (sym counted)
+        (stands_grow kept m.history t (executed_now m st t) m.format outcome open_stands next_outcome)
 
-  executes : (st : Statement) (x : Option Kept) (o : Session) (reply : Reply) (held : Held)
-      → ((r : Reply) (after : Machine) → Executes m s st o r after → StatementStep m s (told_by r) st r after)
-      → Shows m.history m.format s x o → HeldExecutes now (s - 1) st x reply held → Goes m s st reply held
-  executes st x o Memory held runs here step = stays st Memory held (runs Memory m refl) step
-  executes st None Idle NoTransaction held runs here step = stays st NoTransaction held (runs NoTransaction m refl) step
-  executes st None (Working t) reply held runs here step = absurd here
-  executes st (Some kept) Idle reply held runs here step = absurd here
-  executes st None Idle reply held runs here step = absurd step
-  executes st (Some kept) (Working t) reply held runs here step =
-      goes_with st reply (Some (grown now st kept)) (Working (t ++ executed_now m st t ∷ [])) held
+    late_grown : All (IsLate stands.since) kept.reads → All (IsLate stands.since) (grown held st kept).reads
+    late_grown late =
+        let on : stands.since ≤ count held.book = omega (arith, counted, stands.book.window.opened) in
+        late_all stands.since (read_at (count held.book) outcome.reads) kept.reads (late_at stands.since (count held.book) outcome.reads on) late
+
+  executes : (st : Statement) (x : Option Kept) (o : Session) (reply : Reply) (after : Held) (old new : World)
+      → ((r : Reply) (n : Machine) → Executes m s st o r n → StatementStep m s (told_by r) st r n)
+      → Shows stands.since m.history m.format s x o → HeldExecutes held (s - 1) st x reply after old new → Goes m s st reply held after old new
+  unfolding is_plain
+  executes st x o Memory after old new runs here step = goes_nowhere st Memory after old new (runs Memory m refl) refl step
+  executes st None Idle NoTransaction after old new runs here step = goes_nowhere st NoTransaction after old new (runs NoTransaction m refl) refl step
+  executes st None (Working t) reply after old new runs here step = absurd here
+  executes st (Some kept) Idle reply after old new runs here step = absurd here
+  executes st None Idle reply after old new runs here step = absurd step
+  executes st (Some kept) (Working t) reply after old new runs here step =
+      goes_with st reply (Some (grown held st kept)) (Working (t ++ executed_now m st t ∷ [])) after old new
       (runs reply (with_session m s (Working (t ++ executed_now m st t ∷ []))) (step.0 ∙ ap (λ (meant : Meaning). meant.reply) (same_meaning st kept t here.1), refl))
-      (here.0, same_grown st kept t here.1) step.1
+      (here.0, same_grown st kept t here.1, late_grown st kept t here.1 here.2)
+      (meaning_plain reply st held.rows kept (format_in held) step.0) step.1
 
   idle_answered : (q : ℕ) → SessionAnsweredFromSnapshots m.history ((with_session m s Idle).sessions q) m.format
-  idle_answered q = elim (q == s) as (λ b. SessionAnsweredFromSnapshots m.history (cond b Idle (m.sessions q)) m.format) [ true ↦ tt | false ↦ answered.sessions q ]
+  idle_answered q = elim (q == s) as (λ b. SessionAnsweredFromSnapshots m.history (cond b Idle (m.sessions q)) m.format) [ true ↦ tt | false ↦ stands.answered.sessions q ]
 
   by_same : s - 1 + 1 ≡ s
   by_same = omega arith
 
-  -- both judge a commit by the same book
-  book_same : book_in now ≡ book_of m
-  book_same = λ i. record { history = m.history; sides = sym sides i; in_doubt = m.in_doubt }
-
-  -- and by the same reads and writes
-  judged_same : (kept : Kept) (t : List Executed) → StandsForTransaction kept m.history t m.format → verdict_in now kept ≡ verdict (book_of m) t m.format
-  judged_same kept t stands =
-      let later : first_conflict kept.reads m.history ≡ conflict m.history t m.format = conflict_alike kept.reads (reads_of m.history t m.format) m.history stands.reads in
-      ap (λ c. by_doubt m.in_doubt c (length m.history) (intended kept.own)) later
-      ∙ same_verdict m.in_doubt (conflict m.history t m.format) (length m.history) (intended kept.own) (net (replay m.history) (write_set_of m.history t m.format))
-      (λ none. stands_net kept m.history t m.format answered.history stands none)
-
-  decides_here : (kept : Kept) (t : List Executed) (reply : Reply) (after : Book) → StandsForTransaction kept m.history t m.format
-      → Decides (book_in now) (told_by reply) (s - 1 + 1) (verdict_in now kept) reply after
-      → Decides (book_of m) (told_by reply) s (verdict (book_of m) t m.format) reply after
-  decides_here kept t reply after stands decides =
-      subst (λ (v : Verdict). Decides (book_of m) (told_by reply) s v reply after) (judged_same kept t stands)
-      (subst (λ (by : ℕ). Decides (book_of m) (told_by reply) by (verdict_in now kept) reply after) by_same
-      (subst (λ (x : Book). Decides x (told_by reply) (s - 1 + 1) (verdict_in now kept) reply after) book_same decides))
-
   -- what is kept of a session stays, also behind a new entry
   shows_still : (b : Book) → Grows (book_of m) b → (q : ℕ) (x : Option Kept) (o : Session) → SessionAnsweredFromSnapshots m.history o m.format
-      → Shows m.history m.format q x o → Shows b.history m.format q x o
-  shows_still b (model_runs.stays same) q x o f here = subst (λ (h : List Entry). Shows h m.format q x o) (sym same) here
+      → Shows stands.since m.history m.format q x o → Shows stands.since b.history m.format q x o
+  shows_still b (model_runs.stays same) q x o f here = subst (λ (h : List Entry). Shows stands.since h m.format q x o) (sym same) here
   shows_still b (model_runs.grows by writes same) q x o f here =
-      subst (λ (h : List Entry). Shows h m.format q x o) (sym same) (shows_longer m.history (next_entry (book_of m) by writes ∷ []) m.format q x o f here)
+      subst (λ (h : List Entry). Shows stands.since h m.format q x o) (sym same) (shows_longer stands.since m.history (next_entry (book_of m) by writes ∷ []) m.format q x o f here)
 
-  stands_behind : (b : Bool) (held : Held) → Grows (book_of m) (book_in held) → held.sessions ≡ cond b (slice_set xs (s - 1) None) xs → held.transdb.header ≡ db.header
-      → AnsweredFromSnapshots (cond b (with_session (with_book m (book_in held)) s Idle) (with_book m (book_in held)))
-      → StandsFor held (cond b (with_session (with_book m (book_in held)) s Idle) (with_book m (book_in held)))
-  stands_behind true held more sessions header kept = record {
-    history = refl;
-    sides = refl;
-    in_doubt = refl;
-    format = format ∙ ap (λ (h : Header). h.format) (sym header);
-    count = ap length sessions ∙ length-set xs (s - 1) None ∙ count;
-    each = λ q is.
-        subst (λ (ys : List (Option Kept)). Shows held.history m.format q (unwrap_or (slice_get ys (q - 1)) None) ((with_session m s Idle).sessions q)) (sym sessions)
-        (shows_still (book_in held) more q (unwrap_or (slice_get (slice_set xs (s - 1) None) (q - 1)) None) ((with_session m s Idle).sessions q) (idle_answered q)
-        (shows_with xs m s None Idle count in_range shows tt q is));
-    answered = kept;
-  }
-  stands_behind false held more sessions header kept = record {
-    history = refl;
-    sides = refl;
-    in_doubt = refl;
-    format = format ∙ ap (λ (h : Header). h.format) (sym header);
-    count = ap length sessions ∙ count;
-    each = λ q is.
-        subst (λ (ys : List (Option Kept)). Shows held.history m.format q (unwrap_or (slice_get ys (q - 1)) None) (m.sessions q)) (sym sessions)
-        (shows_still (book_in held) more q (unwrap_or (slice_get xs (q - 1)) None) (m.sessions q) (answered.sessions q) (shows q is));
-    answered = kept;
-  }
+  -- the machine with this book, and perhaps with this session idle
+  module _ (after : Held) (b : Book) (more : Grows (book_of m) b) (kept : Keeps stands.since held after b) where
+    format_same : m.format ≡ format_in after
+    format_same = stands.format ∙ ap (λ (h : Header). h.format) (sym kept.header)
 
-  decides : (kept : Kept) (t : List Executed) (reply : Reply) (held : Held) → m.sessions s ≡ Working t → StandsForTransaction kept m.history t m.format
-      → IsDecided now (s - 1) (verdict_in now kept) reply held → Goes m s Commit reply held
-  decides kept t reply held e stands decided =
-      let here = decides_here kept t reply (book_in held) stands decided.decides in
-      let after : Machine = behind m s reply (book_in held) in
-      let step : Step m (OfSession s Commit) (told_by reply) reply after = commit_runs m s (told_by reply) t reply (book_in held) e here in
+    stands_on : after.sessions ≡ held.sessions → AnsweredFromSnapshots (with_book m b) → StandsFor after (with_book m b)
+    stands_on sessions answered = record {
+      since = stands.since;
+      book = kept.book;
+      rows = kept.rows;
+      format = format_same;
+      count = ap length sessions ∙ stands.count;
+      each = λ q is.
+          subst (λ (ys : List (Option Kept)). Shows stands.since b.history m.format q (unwrap_or (slice_get ys (q - 1)) None) (m.sessions q)) (sym sessions)
+          (shows_still b more q (unwrap_or (slice_get held.sessions (q - 1)) None) (m.sessions q) (stands.answered.sessions q) (stands.each q is));
+      answered = answered;
+    }
+
+    stands_idle : after.sessions ≡ slice_set held.sessions (s - 1) None → AnsweredFromSnapshots (with_session (with_book m b) s Idle) → StandsFor after (with_session (with_book m b) s Idle)
+    stands_idle sessions answered = record {
+      since = stands.since;
+      book = kept.book;
+      rows = kept.rows;
+      format = format_same;
+      count = ap length sessions ∙ length-set held.sessions (s - 1) None ∙ stands.count;
+      each = λ q is.
+          subst (λ (ys : List (Option Kept)). Shows stands.since b.history m.format q (unwrap_or (slice_get ys (q - 1)) None) ((with_session m s Idle).sessions q)) (sym sessions)
+          (shows_still b more q (unwrap_or (slice_get (slice_set held.sessions (s - 1) None) (q - 1)) None) ((with_session m s Idle).sessions q) (idle_answered q)
+          (shows_with stands.since held.sessions m s None Idle stands.count in_range stands.each tt q is));
+      answered = answered;
+    }
+
+    stands_behind : (c : Bool) → after.sessions ≡ cond c (slice_set held.sessions (s - 1) None) held.sessions
+        → AnsweredFromSnapshots (cond c (with_session (with_book m b) s Idle) (with_book m b))
+        → StandsFor after (cond c (with_session (with_book m b) s Idle) (with_book m b))
+    stands_behind true sessions answered = stands_idle sessions answered
+    stands_behind false sessions answered = stands_on sessions answered
+
+  book_behind : (reply : Reply) (b : Book) → book_of (behind m s reply b) ≡ b
+  book_behind reply b = elim (ends_transaction reply) as (λ (c : Bool). book_of (cond c (with_session (with_book m b) s Idle) (with_book m b)) ≡ b) [ true ↦ refl | false ↦ refl ]
+
+  format_behind : (reply : Reply) (b : Book) → (behind m s reply b).format ≡ m.format
+  format_behind reply b = elim (ends_transaction reply) as (λ (c : Bool). (cond c (with_session (with_book m b) s Idle) (with_book m b)).format ≡ m.format) [ true ↦ refl | false ↦ refl ]
+
+  decides : (kept : Kept) (t : List Executed) (reply : Reply) (after : Held) (old new : World) → m.sessions s ≡ Working t → kept.session ≡ s → StandsForTransaction kept m.history t m.format
+      → All (IsLate stands.since) kept.reads → CarriesOut held (prepared held.book kept) reply after old new
+      → after.sessions ≡ cond (ends_transaction reply) (slice_set held.sessions (s - 1) None) held.sessions → Goes m s Commit reply held after old new
+  decides kept t reply after old new e of_session open_stands late carried sessions =
+      let v : Verdict = verdict (book_of m) t m.format in
+      let is : prepared held.book kept ≡ preparation_of (book_of m) s v =
+      prepared_same stands.since held.book (book_of m) stands.book kept t m.format open_stands late ∙ ap (λ (n : ℕ). preparation_of (book_of m) n v) of_session in
+      let went : Went (λ x. Decides (book_of m) (told_by reply) s v reply x) stands.since held (book_of m) reply after old new =
+      carries_verdict stands.since held (book_of m) stands.book stands.rows s v reply after old new (subst (λ (p : Preparation). CarriesOut held p reply after old new) is carried) in
+      let b : Book = went.b in
+      let next : Machine = behind m s reply b in
+      let step : Step m (OfSession s Commit) (told_by reply) reply next = commit_runs m s (told_by reply) t reply b e went.does in
+      let more : Grows (book_of m) b = decides_grow (book_of m) (told_by reply) s v reply b went.does in
       record {
-        after = after;
+        next = next;
         step = step;
-        stands = stands_behind (ends_transaction reply) held (decides_grow (book_of m) (told_by reply) s (verdict (book_of m) t m.format) reply (book_in held) here) decided.sessions decided.header
-            (answered_step m s Commit (told_by reply) reply after answered step);
+        stands = stands_behind after b more went.kept (ends_transaction reply) sessions (answered_step m s Commit (told_by reply) reply next stands.answered step);
+        format = format_behind reply b;
+        effect = subst (λ (x : Book). Effect held (book_of m) reply after x old new) (sym (book_behind reply b)) went.effect;
       }
 
-  commits : (x : Option Kept) (o : Session) (reply : Reply) (held : Held) → m.sessions s ≡ o → Shows m.history m.format s x o → HeldCommits now (s - 1) x reply held → Goes m s Commit reply held
-  commits x o Memory held e here step = stays Commit Memory held refl step
-  commits None Idle NoTransaction held e here step = stays Commit NoTransaction held (subst (λ (o : Session). Commits m s (told_by NoTransaction) o NoTransaction m) (sym e) refl) step
-  commits None (Working t) reply held e here step = absurd here
-  commits (Some kept) Idle reply held e here step = absurd here
-  commits None Idle reply held e here step = absurd step
-  commits (Some kept) (Working t) reply held e here step = decides kept t reply held e here.1 step
+  commits : (x : Option Kept) (o : Session) (reply : Reply) (after : Held) (old new : World) → m.sessions s ≡ o → Shows stands.since m.history m.format s x o → HeldCommits held (s - 1) x reply after old new
+      → Goes m s Commit reply held after old new
+  unfolding is_plain
+  commits x o Memory after old new e here step = goes_nowhere Commit Memory after old new refl refl step
+  commits None Idle NoTransaction after old new e here step = goes_nowhere Commit NoTransaction after old new (subst (λ (o : Session). Commits m s (told_by NoTransaction) o NoTransaction m) (sym e) refl) refl step
+  commits None (Working t) reply after old new e here step = absurd here
+  commits (Some kept) Idle reply after old new e here step = absurd here
+  commits None Idle reply after old new e here step = absurd step
+  commits (Some kept) (Working t) reply after old new e here step = decides kept t reply after old new e here.0 here.1 here.2 step.0 step.1
 
-  not_yet : (st : Statement) (reply : Reply) (held : Held) → ((after : Machine) → after ≡ m → StatementStep m s (told_by NotYet) st NotYet after) → (reply ≡ NotYet) × (held ≡ now) → Goes m s st reply held
-  not_yet st reply held refuses step = subst (λ (r : Reply). Goes m s st r held) (sym step.0) (stays st NotYet held (refuses m refl) step.1)
+  -- a definition of an idle session
+  defines_by : (st : Statement) (d : Option Entry) (p : Planned) (reply : Reply) (after : Held) (old new : World) → m.in_doubt ≡ d → planned st (replay m.history) ≡ p
+      → HeldDefinesBy (option_map (λ (x : Entry). x.number) d) held (s - 1) p reply after old new
+      → Went (λ x. DefinesBy d (book_of m) (told_by reply) s p reply x) stands.since held (book_of m) reply after old new
+  unfolding is_plain
+  defines_by st (Some x) p reply after old new doubt plan step =
+      stays stands.since held (book_of m) stands.book stands.rows (λ r y. DefinesBy (Some x) (book_of m) (told_by r) s p r y) reply (Halted x.number) after old new refl (refl, refl) step
+  defines_by st None (Refused why) reply after old new doubt plan step =
+      stays stands.since held (book_of m) stands.book stands.rows (λ r y. DefinesBy None (book_of m) (told_by r) s (Refused why) r y) reply why after old new (refused_plain st (replay m.history) why plan) (refl, refl) step
+  defines_by st None (Plans ws) reply after old new doubt plan step =
+      let is : sealing_of held.book (entry_after held.book (s - 1 + 1) ws) ≡ sealing_in (book_of m) s ws =
+      ap (λ (n : ℕ). sealing_of held.book (entry_after held.book n ws)) by_same ∙ sealing_same stands.since held.book (book_of m) stands.book doubt s ws in
+      carries stands.since held (book_of m) stands.book stands.rows s ws reply after old new (subst (λ (p : Preparation). CarriesOut held p reply after old new) is step)
 
-  runs : (st : Statement) (reply : Reply) (held : Held) → HeldRuns now (s - 1) st reply held → Goes m s st reply held
-  runs Start reply held step = starts (session_at now (s - 1)) (m.sessions s) reply held refl (shows s in_range) step
-  runs Commit reply held step = commits (session_at now (s - 1)) (m.sessions s) reply held refl (shows s in_range) step
-  runs Rollback reply held step = rolls_back (session_at now (s - 1)) (m.sessions s) reply held refl (shows s in_range) step
-  runs (Select what table f) reply held step =
-      executes (Select what table f) (session_at now (s - 1)) (m.sessions s) reply held (λ r after x. x) (shows s in_range) step
-  runs (Insert table tuples) reply held step =
-      executes (Insert table tuples) (session_at now (s - 1)) (m.sessions s) reply held (λ r after x. x) (shows s in_range) step
-  runs (Update table sets f) reply held step =
-      executes (Update table sets f) (session_at now (s - 1)) (m.sessions s) reply held (λ r after x. x) (shows s in_range) step
-  runs (Delete table f) reply held step =
-      executes (Delete table f) (session_at now (s - 1)) (m.sessions s) reply held (λ r after x. x) (shows s in_range) step
-  runs (CreateDatabank name) reply held step = not_yet (CreateDatabank name) reply held (λ after is. is) step
-  runs (CreateTable name columns key bank) reply held step = not_yet (CreateTable name columns key bank) reply held (λ after is. is) step
-  runs (DropTable name) reply held step = not_yet (DropTable name) reply held (λ after is. is) step
-  runs (CreateShadow name bank) reply held step = not_yet (CreateShadow name bank) reply held (λ after is. is) step
-  runs (ShadowOnline name) reply held step = not_yet (ShadowOnline name) reply held (λ after is. is) step
-  runs (ShadowOffline name) reply held step = not_yet (ShadowOffline name) reply held (λ after is. is) step
-  runs (ShadowMaster name) reply held step = not_yet (ShadowMaster name) reply held (λ after is. is) step
-  runs (DropShadow name) reply held step = not_yet (DropShadow name) reply held (λ after is. is) step
-  runs (CreateBackup name bank) reply held step = not_yet (CreateBackup name bank) reply held (λ after is. is) step
-  runs (BackupReady name) reply held step = not_yet (BackupReady name) reply held (λ after is. is) step
-  runs (DropBackup name) reply held step = not_yet (DropBackup name) reply held (λ after is. is) step
-  runs (Restore bank name) reply held step = not_yet (Restore bank name) reply held (λ after is. is) step
+  defines_idle : (st : Statement) (reply : Reply) (after : Held) (old new : World) → ((n : Machine) → DefinesIn m s (told_by reply) st (m.sessions s) reply n → StatementStep m s (told_by reply) st reply n)
+      → m.sessions s ≡ Idle → HeldDefinesBy held.book.halted held (s - 1) (planned st held.rows) reply after old new × (after.sessions ≡ held.sessions) → Goes m s st reply held after old new
+  defines_idle st reply after old new runs e step =
+      let by : HeldDefinesBy (option_map (λ (x : Entry). x.number) m.in_doubt) held (s - 1) (planned st (replay m.history)) reply after old new =
+      subst (λ (rows : State). HeldDefinesBy (option_map (λ (x : Entry). x.number) m.in_doubt) held (s - 1) (planned st rows) reply after old new) stands.rows
+      (subst (λ (d : Option ℕ). HeldDefinesBy d held (s - 1) (planned st held.rows) reply after old new) stands.book.halted step.0) in
+      let went : Went (λ x. Defines (book_of m) (told_by reply) s st reply x) stands.since held (book_of m) reply after old new =
+      defines_by st m.in_doubt (planned st (replay m.history)) reply after old new refl refl by in
+      let b : Book = went.b in
+      let next : Machine = with_book m b in
+      let runs_so : DefinesIn m s (told_by reply) st (m.sessions s) reply next = define_runs m s (told_by reply) st reply b e went.does in
+      let taken : Step m (OfSession s st) (told_by reply) reply next = runs next runs_so in
+      let more : Grows (book_of m) b = defines_grow (book_of m) (told_by reply) s st reply b went.does in
+      record {
+        next = next;
+        step = taken;
+        stands = stands_on after b more went.kept step.1 (answered_step m s st (told_by reply) reply next stands.answered taken);
+        format = refl;
+        effect = went.effect;
+      }
 
-unified : (held : Held) (m : Machine) → held.history ≡ m.history → held.in_doubt ≡ m.in_doubt → held ≡ held_of m held.sessions held.transdb
-unified held m history in_doubt = λ i. record { history = history i; sessions = held.sessions; transdb = held.transdb; in_doubt = in_doubt i }
+  defines : (st : Statement) (x : Option Kept) (o : Session) (reply : Reply) (after : Held) (old new : World)
+      → ((r : Reply) (n : Machine) → DefinesIn m s (told_by r) st (m.sessions s) r n → StatementStep m s (told_by r) st r n)
+      → m.sessions s ≡ o → Shows stands.since m.history m.format s x o → HeldDefines held (s - 1) st x reply after old new → Goes m s st reply held after old new
+  unfolding is_plain
+  defines st x o Memory after old new runs e here step = goes_nowhere st Memory after old new (runs Memory m refl) refl step
+  defines st (Some kept) (Working t) InTransaction after old new runs e here step =
+      goes_nowhere st InTransaction after old new (runs InTransaction m (subst (λ (o : Session). DefinesIn m s (told_by InTransaction) st o InTransaction m) (sym e) refl)) refl step
+  defines st None (Working t) reply after old new runs e here step = absurd here
+  defines st (Some kept) Idle reply after old new runs e here step = absurd here
+  defines st (Some kept) (Working t) reply after old new runs e here step = absurd step
+  defines st None Idle reply after old new runs e here step = defines_idle st reply after old new (λ n x. runs reply n x) e step
 
--- a step whose faults have their cause
-follows : (held : Held) (m : Machine) (s : ℕ) (st : Statement) (reply : Reply) (old new : World) → FaultRose reply old new → Goes m s st reply held
-    → Follows (Risen old new) m (OfSession s st) reply held
-follows held m s st reply old new rose goes = record {
-  seen = told_by reply;
-  told = refl;
-  causes = caused reply old new rose;
-  after = goes.after;
-  step = goes.step;
-  stands = goes.stands;
-}
+  not_yet : (st : Statement) (reply : Reply) (after : Held) (old new : World) → ((n : Machine) → n ≡ m → StatementStep m s (told_by NotYet) st NotYet n) → (reply ≡ NotYet) × ComesTo held after old new
+      → Goes m s st reply held after old new
+  unfolding is_plain
+  not_yet st reply after old new refuses step = subst (λ (r : Reply). Goes m s st r held after old new) (sym step.0) (goes_nowhere st NotYet after old new (refuses m refl) refl step.1)
 
--- a statement of a session
-pub follows_runs : (held : Held) (m : Machine) (s : ℕ) (st : Statement) (reply : Reply) (after : Held) (old new : World) → IsSession s → StandsFor held m
-    → HeldRuns held (s - 1) st reply after → FaultRose reply old new
-    → Follows (Risen old new) m (OfSession s st) reply after
-follows_runs held m s st reply after old new in_range stands step rose =
-    let same = unified held m stands.history stands.in_doubt in
-    follows after m s st reply old new rose
-    (runs m s in_range held.sessions held.transdb stands.count stands.each stands.sides stands.format stands.answered st reply after
-    (subst (λ (x : Held). HeldRuns x (s - 1) st reply after) same step))
-
--- a step of upkeep
-pub follows_control : (held : Held) (m : Machine) (control : Upkeep) (after : Held) (old new : World) → StandsFor held m → after ≡ held
-    → Follows (Risen old new) m (OfUpkeep control) NotYet after
-follows_control held m control after old new stands same = record {
-  seen = told_by NotYet;
-  told = refl;
-  causes = record { rose_has = λ file risen. cc; before_has = λ e. cc; at_has = λ e. cc };
-  after = m;
-  step = refl;
-  stands = subst (λ (x : Held). StandsFor x m) (sym same) stands;
-}
+  pub goes : (st : Statement) (reply : Reply) (after : Held) (old new : World) → HeldRuns held (s - 1) st reply after old new → Goes m s st reply held after old new
+  goes Start reply after old new step = starts (session_at held (s - 1)) (m.sessions s) reply after old new refl (stands.each s in_range) step
+  goes Commit reply after old new step = commits (session_at held (s - 1)) (m.sessions s) reply after old new refl (stands.each s in_range) step
+  goes Rollback reply after old new step = rolls_back (session_at held (s - 1)) (m.sessions s) reply after old new refl (stands.each s in_range) step
+  goes (Select what table f) reply after old new step =
+      executes (Select what table f) (session_at held (s - 1)) (m.sessions s) reply after old new (λ r n x. x) (stands.each s in_range) step
+  goes (Insert table tuples) reply after old new step =
+      executes (Insert table tuples) (session_at held (s - 1)) (m.sessions s) reply after old new (λ r n x. x) (stands.each s in_range) step
+  goes (Update table sets f) reply after old new step =
+      executes (Update table sets f) (session_at held (s - 1)) (m.sessions s) reply after old new (λ r n x. x) (stands.each s in_range) step
+  goes (Delete table f) reply after old new step =
+      executes (Delete table f) (session_at held (s - 1)) (m.sessions s) reply after old new (λ r n x. x) (stands.each s in_range) step
+  goes (CreateTable name columns key bank) reply after old new step =
+      defines (CreateTable name columns key bank) (session_at held (s - 1)) (m.sessions s) reply after old new (λ r n x. x) refl (stands.each s in_range) step
+  goes (DropTable name) reply after old new step =
+      defines (DropTable name) (session_at held (s - 1)) (m.sessions s) reply after old new (λ r n x. x) refl (stands.each s in_range) step
+  goes (CreateDatabank name) reply after old new step = not_yet (CreateDatabank name) reply after old new (λ n is. is) step
+  goes (CreateShadow name bank) reply after old new step = not_yet (CreateShadow name bank) reply after old new (λ n is. is) step
+  goes (ShadowOnline name) reply after old new step = not_yet (ShadowOnline name) reply after old new (λ n is. is) step
+  goes (ShadowOffline name) reply after old new step = not_yet (ShadowOffline name) reply after old new (λ n is. is) step
+  goes (ShadowMaster name) reply after old new step = not_yet (ShadowMaster name) reply after old new (λ n is. is) step
+  goes (DropShadow name) reply after old new step = not_yet (DropShadow name) reply after old new (λ n is. is) step
+  goes (CreateBackup name bank) reply after old new step = not_yet (CreateBackup name bank) reply after old new (λ n is. is) step
+  goes (BackupReady name) reply after old new step = not_yet (BackupReady name) reply after old new (λ n is. is) step
+  goes (DropBackup name) reply after old new step = not_yet (DropBackup name) reply after old new (λ n is. is) step
+  goes (Restore bank name) reply after old new step = not_yet (Restore bank name) reply after old new (λ n is. is) step
 
 -- no statement means MEMORY
-pub executed : (held : Held) (at : ℕ) (st : Statement) (t : Kept) (reply : Reply) (after : Held) → reply ≡ (meaning_in held st t).reply
-    → after ≡ with_open held at (Some (grown held st t)) → HeldExecutes held at st (Some t) reply after
+pub executed : (held : Held) (at : ℕ) (st : Statement) (t : Kept) (reply : Reply) (after : Held) (w : World) → reply ≡ (meaning_in held st t).reply
+    → after ≡ with_open held at (Some (grown held st t)) → HeldExecutes held at st (Some t) reply after w w
 unfolding is_meant
-executed held at st t Memory after same grew = absurd (not_meant Memory st (laid_over (replay held.history) t.own) (keys_written t.own) held.transdb.header.format refl same)
-executed held at st t reply after same grew = (same, grew)
-
--- such a statement answers no fault, so nothing is owed for one
-pub executes_caused : (held : Held) (at : ℕ) (st : Statement) (t : Option Kept) (reply : Reply) (after : Held) (old new : World) → HeldExecutes held at st t reply after
-    → CausedBy held reply after old new
-unfolding is_meant
-executes_caused held at st None (Fault f) after old new step = absurd step
-executes_caused held at st None (InDoubt k) after old new step = absurd step
-executes_caused held at st (Some t) (Fault f) after old new step =
-    absurd (not_meant (Fault f) st (laid_over (replay held.history) t.own) (keys_written t.own) held.transdb.header.format refl step.0)
-executes_caused held at st (Some t) (InDoubt k) after old new step =
-    absurd (not_meant (InDoubt k) st (laid_over (replay held.history) t.own) (keys_written t.own) held.transdb.header.format refl step.0)
-executes_caused held at st t reply after old new step = tt
-
--- nor is anything written for one, where it makes no call
-pub executes_still : (held : Held) (at : ℕ) (st : Statement) (t : Option Kept) (reply : Reply) (after : Held) (w : World) → HeldExecutes held at st t reply after → HeldWrites held reply w w
-unfolding is_meant
-executes_still held at st None (Committed k) after w step = absurd step
-executes_still held at st None (Fault f) after w step = absurd step
-executes_still held at st None (InDoubt k) after w step = absurd step
-executes_still held at st (Some t) (Committed k) after w step =
-    absurd (not_meant (Committed k) st (laid_over (replay held.history) t.own) (keys_written t.own) held.transdb.header.format refl step.0)
-executes_still held at st (Some t) (Fault f) after w step =
-    absurd (not_meant (Fault f) st (laid_over (replay held.history) t.own) (keys_written t.own) held.transdb.header.format refl step.0)
-executes_still held at st (Some t) (InDoubt k) after w step =
-    absurd (not_meant (InDoubt k) st (laid_over (replay held.history) t.own) (keys_written t.own) held.transdb.header.format refl step.0)
-executes_still held at st t reply after w step = refl
-
--- so for START
-pub starts_still : (held : Held) (at : ℕ) (t : Option Kept) (reply : Reply) (after : Held) (w : World) → HeldStarts held at t reply after → HeldWrites held reply w w
-starts_still held at None (Committed k) after w step = absurd step
-starts_still held at None (Fault f) after w step = absurd step
-starts_still held at None (InDoubt k) after w step = absurd step
-starts_still held at (Some t) (Committed k) after w step = absurd step
-starts_still held at (Some t) (Fault f) after w step = absurd step
-starts_still held at (Some t) (InDoubt k) after w step = absurd step
-starts_still held at t reply after w step = refl
-
--- nor for ROLLBACK
-pub rolls_back_caused : (held : Held) (at : ℕ) (t : Option Kept) (reply : Reply) (after : Held) (old new : World) → HeldRollsBack held at t reply after → CausedBy held reply after old new
-rolls_back_caused held at None (Fault f) after old new step = absurd step
-rolls_back_caused held at None (InDoubt k) after old new step = absurd step
-rolls_back_caused held at (Some t) (Fault f) after old new step = absurd step
-rolls_back_caused held at (Some t) (InDoubt k) after old new step = absurd step
-rolls_back_caused held at t reply after old new step = tt
-
-pub rolls_back_still : (held : Held) (at : ℕ) (t : Option Kept) (reply : Reply) (after : Held) (w : World) → HeldRollsBack held at t reply after → HeldWrites held reply w w
-rolls_back_still held at None (Committed k) after w step = absurd step
-rolls_back_still held at None (Fault f) after w step = absurd step
-rolls_back_still held at None (InDoubt k) after w step = absurd step
-rolls_back_still held at (Some t) (Committed k) after w step = absurd step
-rolls_back_still held at (Some t) (Fault f) after w step = absurd step
-rolls_back_still held at (Some t) (InDoubt k) after w step = absurd step
-rolls_back_still held at t reply after w step = refl
-
--- nor for START
-pub starts_caused : (held : Held) (at : ℕ) (t : Option Kept) (reply : Reply) (after : Held) (old new : World) → HeldStarts held at t reply after → CausedBy held reply after old new
-starts_caused held at None (Fault f) after old new step = absurd step
-starts_caused held at None (InDoubt k) after old new step = absurd step
-starts_caused held at (Some t) (Fault f) after old new step = absurd step
-starts_caused held at (Some t) (InDoubt k) after old new step = absurd step
-starts_caused held at t reply after old new step = tt
+executed held at st t Memory after w same grew = absurd (not_meant Memory st (laid_over held.rows t.own) (keys_written t.own) (format_in held) refl same)
+executed held at st t reply after w same grew = (same, (grew, refl))
 
 idle_places : (n i : ℕ) → i < n → slice_get (replicate n (none_open)) i ≡ Some none_open
 idle_places zero i within = absurd (omega arith)
 idle_places (suc n) zero within = refl
 idle_places (suc n) (suc i) within = idle_places n i (omega arith)
 
+-- the log of a history that it holds is filled by it
+fills : (db : Db) (h : List Entry) → Begins db h → Fills db h
+fills db h begins = record { next = begins.next; filled = begins.filled; placed = begins.placed }
+
 -- a system that begins with a history
-pub stands_first : (h : List Entry) (xs : List (Option Kept)) (db : Db) → IsHistory h → xs ≡ replicate 64 none_open
-    → StandsFor (record { history = h; sessions = xs; transdb = db; in_doubt = None }) (first_machine db.header.format (sides_of db.header) h)
-stands_first h xs db numbered same = record {
-  history = refl;
-  sides = refl;
-  in_doubt = refl;
+pub stands_first : (h : List Entry) (xs : List (Option Kept)) (db : Db) (rows : State) → Begins db h → rows ≡ replay h → xs ≡ replicate 64 none_open
+    → StandsFor (record { book = record { transdb = db; window = record { start = length h; entries = []; is_reserved = false }; halted = None }; sessions = xs; rows = rows }) (first_machine db.header.format (sides_of db.header) h)
+stands_first h xs db rows begins are same = record {
+  since = length h;
+  book = begins_book db h false begins.numbered (fills db h begins);
+  rows = are;
   format = refl;
   count = rw same refl;
   each = λ s is.
       let within : s - 1 < 64 = omega arith in
       let idle : unwrap_or (slice_get xs (s - 1)) None ≡ None = ap (λ (ys : List (Option Kept)). unwrap_or (slice_get ys (s - 1)) None) same ∙ ap (λ o. unwrap_or o None) (idle_places 64 (s - 1) within) in
-      subst (λ (o : Option Kept). Shows h db.header.format s o Idle) (sym idle) tt;
-  answered = answered_first db.header.format (sides_of db.header) h numbered;
+      subst (λ (o : Option Kept). Shows (length h) h db.header.format s o Idle) (sym idle) tt;
+  answered = answered_first db.header.format (sides_of db.header) h begins.numbered;
 }
-
--- a history with its next entry is one
-pub history_grows : (h before after : List Entry) (e : Entry) → IsHistory h → before ≡ h → e.number ≡ length before + 1 → after ≡ before ++ e ∷ [] → IsHistory after
-history_grows h before after e numbered same next grown =
-    let number : e.number ≡ 1 + length h = next ∙ ap (λ x. length x + 1) same ∙ add_comm (length h) 1 in
-    subst IsHistory (sym (grown ∙ ap (λ x. x ++ e ∷ []) same)) (IsNumberedFrom-snoc 1 h e numbered number)

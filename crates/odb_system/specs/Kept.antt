@@ -17,7 +17,8 @@ use Rattle.odb_transdb.specs.Opened.{Holds}
 use Rattle.odb_transdb.specs.Standing.{Db}
 use Rattle.odb_transdb.specs.Answers.{HoldsAll}
 use Rattle.odb_transdb.specs.Worlds.{RoseAtGate, WritesFromGate, WritesRecord, WritesBehindGate}
-use Rattle.odb_system.specs.Held.{Held, Begins, Follows, sides_of}
+use Rattle.odb_commit.specs.Standing.{sides_of}
+use Rattle.odb_system.specs.Held.{Held, Begins, Follows}
 use Rattle.odb_system.specs.Durable.{Risen}
 
 -- the image of TRANSDB opens under a header of the machine's format and sides, from number 1 on, to

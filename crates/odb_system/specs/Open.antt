@@ -1,5 +1,5 @@
 -- What the system keeps of an open transaction, and what its statements do.
-use Rattle.std.specs.Prelude.{◌≡◌, ℕ, List, Option, None, Some}
+use Rattle.std.specs.Prelude.{◌≡◌, ℕ, ◌≤◌, List, Option, None, Some}
 use Rattle.std.specs.List.{All}
 use Rattle.odb_values.specs.Key.{IsKey}
 use Rattle.odb_model.specs.declared.entry.Entry.{Entry}
@@ -44,10 +44,11 @@ IsOpen None = Unit {0}
 IsOpen (Some t) = HasOwnKeys t
 
 -- What is kept of a session stands for what the session is in: nothing where it is idle, else its
--- transaction
-abbrev pub Shows : List Entry → ℕ → ℕ → Option Kept → Session → Type 0
-Shows h format s None Idle = Unit {0}
-Shows h format s None (Working t) = ⊥
-Shows h format s (Some kept) Idle = ⊥
-Shows h format s (Some kept) (Working t) =
+-- transaction, which has read nothing where the history had fewer than `since` entries
+abbrev pub Shows : ℕ → List Entry → ℕ → ℕ → Option Kept → Session → Type 0
+Shows since h format s None Idle = Unit {0}
+Shows since h format s None (Working t) = ⊥
+Shows since h format s (Some kept) Idle = ⊥
+Shows since h format s (Some kept) (Working t) =
     (kept.session ≡ s) × StandsForTransaction kept h t format
+    × All (λ r. since ≤ r.number) kept.reads

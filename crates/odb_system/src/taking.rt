@@ -6,21 +6,21 @@ ghost use Rattle.odb_model.specs.Storable.{HaveKeys};
 
 use crate::SystemError;
 use odb_keytable::{CommittedRows, Pending, Placed};
-use odb_model::{Entry, Write, Writes};
+use odb_model::{Entries, Entry, Write, Writes};
 use odb_values::{Duplicate, Frozen};
 use std::alloc::{AllocError, Global};
 
 /// The rows that stand after these entries. The error is want of memory.
 ///
-/// One entry is copied at a time and folded in, in the time of a search for each of its writes.
-pub(crate) fn rows_after(alloc: Global, entries: &[Entry]) -> Result<CommittedRows, SystemError>
-    ensures rows { IfOk result
-        (λ rows. rows ≡ record { state = replay entries.now; waiting = 0 }) }
-    ensures keyed { IfOk result (λ _. All (λ e. HaveKeys e.writes) entries.now) }
+/// One entry is copied at a time and folded in, in the time of a search for each of its writes, and
+/// its memory is given back before the next.
+pub(crate) fn rows_after(alloc: Global, entries: Entries) -> Result<CommittedRows, SystemError>
+    ensures rows { IfOk result (λ rows. rows ≡ record { state = replay entries; waiting = 0 }) }
+    ensures keyed { IfOk result (λ _. All (λ e. HaveKeys e.writes) entries) }
 {
     let mut rows = CommittedRows::new(alloc);
-    for entry in entries {
-        rows.push(placed(alloc, entry)?);
+    for entry in entries.into_vec() {
+        rows.push(placed(alloc, &entry)?);
         rows.settle(alloc)?;
     }
     Ok(rows)

@@ -48,17 +48,23 @@ use std::alloc::Global;
 ///   transaction's statements, run alone after the first k - 1 entries of the history, give the
 ///   very replies that they gave, and what they leave written is entry k. Where it is answered
 ///   ENDED p, the same holds after the first p entries, and they leave nothing written.
-/// - **Conflicts are exact.** Unless an entry is in doubt, COMMIT is answered CONFLICT j where entry
-///   j is the first of the history that came after a read of the transaction and wrote a key of the
-///   range read, and where there is no such entry it isn't. A SELECT, an UPDATE and a DELETE read
-///   all of their range, rows that aren't there too, and an INSERT its keys; so they do where they
-///   are refused for a row.
-/// - **A full log is told exactly**: FULL comes where the entry's record needs more bytes than the
-///   side of TRANSDB has left.
+/// - **Old reads are told exactly.** Unless an entry is in doubt, COMMIT is answered AGED o s where
+///   the transaction's oldest read is of a history of o entries and o is below s, the number of
+///   entries before the longest suffix of the history that has at most 262,144 writes in all.
+/// - **Conflicts are exact.** Unless an entry is in doubt or the oldest read is too old, COMMIT is
+///   answered CONFLICT j where entry j is the first of the history that came after a read of the
+///   transaction and wrote a key of the range read, and where there is no such entry it isn't. A
+///   SELECT, an UPDATE and a DELETE read all of their range, rows that aren't there too, and an
+///   INSERT its keys; so they do where they are refused for a row.
+/// - **A definition is a commit of its own.** CREATE TABLE and DROP TABLE are refused in a
+///   transaction. Else they are refused by the statement and the dictionary alone, as the history
+///   makes it, or what they write into it is the next entry, with the replies of a commit.
+/// - **A full log is told exactly**: HISTORYFULL comes where the history has 2^48 entries, and else
+///   FULL where the entry's record needs more bytes than the side of TRANSDB has left.
 /// - **A fault is counted.** FAULT 0 and INDOUBT are together at most as many as the count of faults
 ///   of TRANSDB rose by in the call: each has a rise of its own, one behind another. INDOUBT comes
-///   only where the whole record but its gate was on the disk. After INDOUBT k every COMMIT
-///   in a transaction is answered HALTED k.
+///   only where the whole record but its gate was on the disk. After INDOUBT k every COMMIT in a
+///   transaction, and every such definition outside one, is answered HALTED k.
 /// - Every other reply has its one cause, in the line, in the session's state or in the rows that it
 ///   sees.
 ///
@@ -114,7 +120,9 @@ use std::alloc::Global;
 /// pieces of 65,536 bytes, of a line no more is kept than a line can have that asks for something,
 /// and each reply is said in as few calls as the console allows. A statement that names its key
 /// costs a search, one over a range the rows in it. A COMMIT looks at the writes since the
-/// transaction's oldest read, and with writes of its own it syncs TRANSDB twice.
+/// transaction's oldest read, and with writes of its own it syncs TRANSDB twice; so does a
+/// definition. The history isn't held: of its entries there are those that were committed in this
+/// call and are within 262,144 writes of its end.
 pub fn run<H: Host>(alloc: Global, words: &[String], host: &mut H) -> Status
     ensures usage { ¬ (IsCommand (map string_bytes words.now)) → result ≡ Status.Usage }
     ensures usage_only { result ≡ Status.Usage → ¬ (IsCommand (map string_bytes words.now)) }

@@ -9,7 +9,7 @@ use Rattle.odb_model.specs.declared.entry.Entry.{Entry}
 use Rattle.odb_model.specs.State.{IsNumberedFrom}
 use Rattle.odb_model.specs.Width.{record_width, records_width}
 use Rattle.odb_transdb.specs.declared.error.TransdbError.{TransdbError}
-use Rattle.odb_transdb.specs.declared.error.TransdbError.TheVariants.{NoDatabase, Damaged, Full, FaultBefore, InDoubt, Fault, NoMemory}
+use Rattle.odb_transdb.specs.declared.error.TransdbError.TheVariants.{NoDatabase, Damaged, Full, FaultBefore, InDoubt, NotClean, Held, Fault, NoMemory}
 use Rattle.odb_transdb.specs.Opened.{entries_from}
 use Rattle.odb_transdb.specs.Walking.{IsReadOf, IsEntryOf}
 use Rattle.odb_transdb.proofs.Entries.{read_more, read_fault}
@@ -79,6 +79,8 @@ module _ (first start : ℕ) (payloads done rest : List (List ℕ)) (base items 
         ∙ read_fault payload others first start done so_far.all told.1.0 so_far.read (subst (λ (n : ℕ). read_entry n payload ≡ Err told.1.0) so_far.number_is told.1.1)
         ∙ ap Err (sym so_far.place ∙ sym told.0)
     added_fault P (Full need room) told = absurd told
+    added_fault P NotClean told = absurd told
+    added_fault P (Held mark last) told = absurd told
     added_fault P FaultBefore told = absurd told
     added_fault P (InDoubt n) told = absurd told
     added_fault P Fault told = absurd told

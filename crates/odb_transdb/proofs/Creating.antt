@@ -22,12 +22,12 @@ use Rattle.odb_reclog.proofs.Records.{no_gate}
 use Rattle.odb_reclog.proofs.Standing.{zero_gate}
 use Rattle.odb_transdb.specs.Header.{header_image, is_header, side_start, side_end, side_size, file_size, new_header}
 use Rattle.odb_transdb.specs.Opened.{entries_from, Holds}
-use Rattle.odb_transdb.specs.Steps.{IsBlank, KeepsPair, PairComesLast}
+use Rattle.odb_transdb.specs.Steps.{IsBlankFrom, IsBlank, KeepsPair, PairComesLast}
 use Rattle.odb_transdb.proofs.Headers.{header_again}
 use Rattle.odb_transdb.proofs.Opened.{Has, has_holds}
 
 -- a side of zeros has no record
-zero_list : (most end number place : ℕ) (bytes : List ℕ) → slice_index bytes place ≡ 0 → records_from (suc most) end number place bytes ≡ []
+pub zero_list : (most end number place : ℕ) (bytes : List ℕ) → slice_index bytes place ≡ 0 → records_from (suc most) end number place bytes ≡ []
 zero_list most end number place bytes is_zero =
     ap (λ (b : Bool). if b then payload_at place bytes ∷ records_from most end (number + 1) (end_at place bytes) bytes else []) (no_gate end number place bytes (zero_gate place bytes is_zero))
 
@@ -60,70 +60,70 @@ blank_has kib bytes low high blank pair =
     }
 
 -- so far zeros are written
-pub record IsZeroed (w now : World) (end at : ℕ) : Type 0 where
-  pub run : TearsOnly 0 1024 (end - 1024) w now
-  pub low : 1024 ≤ at
+pub record IsZeroed (w now : World) (start end at : ℕ) : Type 0 where
+  pub run : TearsOnly 0 start (end - start) w now
+  pub low : start ≤ at
   pub high : at ≤ end
-  pub zero : ReadsZero 1024 at (file_of 0 now)
-  pub long : IfSome (file_of 0 now) (λ f. at ≤ max 1024 (length f.bytes))
+  pub zero : ReadsZero start at (file_of 0 now)
+  pub long : IfSome (file_of 0 now) (λ f. at ≤ max start (length f.bytes))
 
-pub zeroed_none : (w : World) (end : ℕ) → 1024 ≤ end → IsZeroed w w end 1024
-zeroed_none w end more = record {
-  run = begins 0 (TornFrom 1024 (end - 1024) (file_of 0 w)) w (stays_from 1024 (end - 1024) (file_of 0 w) (file_of 0 w) refl);
+pub zeroed_none : (w : World) (start end : ℕ) → start ≤ end → IsZeroed w w start end start
+zeroed_none w start end more = record {
+  run = begins 0 (TornFrom start (end - start) (file_of 0 w)) w (stays_from start (end - start) (file_of 0 w) (file_of 0 w) refl);
   low = omega arith;
   high = more;
   zero = nothing (file_of 0 w);
   long = short (file_of 0 w);
 }
   where
-    nothing : (o : Option File) → ReadsZero 1024 1024 o
+    nothing : (o : Option File) → ReadsZero start start o
     nothing None = tt
     nothing (Some f) = λ i low high. absurd (omega arith)
 
-    short : (o : Option File) → IfSome o (λ f. 1024 ≤ max 1024 (length f.bytes))
+    short : (o : Option File) → IfSome o (λ f. start ≤ max start (length f.bytes))
     short None = tt
     short (Some f) = omega arith
 
-module _ (w mid now : World) (end at n : ℕ) (so_far : IsZeroed w mid end at) (within : at + n ≤ end) (call : CallsOn 0 mid now) (torn : TornFrom at n (file_of 0 mid) (file_of 0 now)) where
+module _ (w mid now : World) (start end at n : ℕ) (so_far : IsZeroed w mid start end at) (within : at + n ≤ end) (call : CallsOn 0 mid now) (torn : TornFrom at n (file_of 0 mid) (file_of 0 now)) where
   -- whatever a write answered
-  pub zeroed_run : TearsOnly 0 1024 (end - 1024) w now
+  pub zeroed_run : TearsOnly 0 start (end - start) w now
   zeroed_run =
-      let P = TornFrom 1024 (end - 1024) (file_of 0 w) in
+      let P = TornFrom start (end - start) (file_of 0 w) in
       let low = so_far.low in
       goes_on 0 P w mid now so_far.run call
-      (from_then 1024 (end - 1024) (file_of 0 w) (file_of 0 mid) (file_of 0 now) (run_end 0 P w mid so_far.run)
-      (from_widens at n 1024 (end - 1024) (file_of 0 mid) (file_of 0 now) (omega arith) (omega arith) torn))
+      (from_then start (end - start) (file_of 0 w) (file_of 0 mid) (file_of 0 now) (run_end 0 P w mid so_far.run)
+      (from_widens at n start (end - start) (file_of 0 mid) (file_of 0 now) (omega arith) (omega arith) torn))
 
-  pub zeroed_more : ZerosGoOn at n (file_of 0 mid) (file_of 0 now) → IfSome (file_of 0 now) (λ f. at + n ≤ length f.bytes) → IsZeroed w now end (at + n)
+  pub zeroed_more : ZerosGoOn at n (file_of 0 mid) (file_of 0 now) → IfSome (file_of 0 now) (λ f. at + n ≤ length f.bytes) → IsZeroed w now start end (at + n)
   zeroed_more zero long = record {
     run = zeroed_run;
     low = omega (arith, so_far.low);
     high = within;
-    zero = zero 1024 so_far.low so_far.zero;
+    zero = zero start so_far.low so_far.zero;
     long = longer (file_of 0 now) long;
   }
     where
-      longer : (o : Option File) → IfSome o (λ f. at + n ≤ length f.bytes) → IfSome o (λ f. at + n ≤ max 1024 (length f.bytes))
+      longer : (o : Option File) → IfSome o (λ f. at + n ≤ length f.bytes) → IfSome o (λ f. at + n ≤ max start (length f.bytes))
       longer None is = tt
       longer (Some f) is = omega arith
 
 -- whatever the sync behind them answered
-pub zeroed_sync : {E : Type 0} (w mid now : World) (end at : ℕ) (result : Result (Unit {0}) E) → IsZeroed w mid end at → CallsOn 0 mid now → ReadsImage (file_of 0 mid) → OnOk result (Keeps 0 mid now) → OnErr result (Unsettles 0 mid now)
-    → TearsOnly 0 1024 (end - 1024) w now
-zeroed_sync w mid now end at result so_far call reads kept unsettled =
-    let P = TornFrom 1024 (end - 1024) (file_of 0 w) in
-    goes_on 0 P w mid now so_far.run call (sync_from 0 mid now result 1024 (end - 1024) w (run_end 0 P w mid so_far.run) reads kept unsettled)
+pub zeroed_sync : {E : Type 0} (w mid now : World) (start end at : ℕ) (result : Result (Unit {0}) E) → IsZeroed w mid start end at → CallsOn 0 mid now → ReadsImage (file_of 0 mid) → OnOk result (Keeps 0 mid now) → OnErr result (Unsettles 0 mid now)
+    → TearsOnly 0 start (end - start) w now
+zeroed_sync w mid now start end at result so_far call reads kept unsettled =
+    let P = TornFrom start (end - start) (file_of 0 w) in
+    goes_on 0 P w mid now so_far.run call (sync_from 0 mid now result start (end - start) w (run_end 0 P w mid so_far.run) reads kept unsettled)
 
 -- and synced
-pub zeroed_kept : (w mid now : World) (end : ℕ) → 1024 < end → IsZeroed w mid end end → Keeps 0 mid now → EachImage (IsBlank end) (file_of 0 now)
-zeroed_kept w mid now end more so_far keeps = subst (EachImage (IsBlank end)) (sym keeps) (of_mid (file_of 0 mid) so_far.zero so_far.long)
+pub zeroed_kept : (w mid now : World) (start end : ℕ) → start < end → IsZeroed w mid start end end → Keeps 0 mid now → EachImage (IsBlankFrom start end) (file_of 0 now)
+zeroed_kept w mid now start end more so_far keeps = subst (EachImage (IsBlankFrom start end)) (sym keeps) (of_mid (file_of 0 mid) so_far.zero so_far.long)
   where
-    of_mid : (o : Option File) → ReadsZero 1024 end o → IfSome o (λ f. end ≤ max 1024 (length f.bytes)) → EachImage (IsBlank end) (option_map kept o)
+    of_mid : (o : Option File) → ReadsZero start end o → IfSome o (λ f. end ≤ max start (length f.bytes)) → EachImage (IsBlankFrom start end) (option_map kept o)
     of_mid None zero long = tt
     of_mid (Some f) zero long = λ image is.
         let same = image_kept (kept f) image (refl, refl) is in
-        let blank : IsBlank end f.bytes = record { long = omega arith; zero = zero } in
-        subst (IsBlank end) (sym same) blank
+        let blank : IsBlankFrom start end f.bytes = record { long = omega arith; zero = zero } in
+        subst (IsBlankFrom start end) (sym same) blank
 
 -- the pair is made in front of them
 pub blank_beside : (end at n : ℕ) (before image : List ℕ) → at + n ≤ 1024 → IsBlank end before → Torn at n before image → IsBlank end image

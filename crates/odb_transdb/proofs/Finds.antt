@@ -13,10 +13,10 @@ use Rattle.odb_model.specs.declared.side.OtherSide.{OtherSide}
 use Rattle.odb_model.specs.declared.side.OtherSide.TheVariants.{Live, Dirty, Clean}
 use Rattle.odb_transdb.specs.declared.header.Header.{Header}
 use Rattle.odb_transdb.specs.declared.error.TransdbError.{TransdbError}
-use Rattle.odb_transdb.specs.declared.error.TransdbError.TheVariants.{NoDatabase, Damaged, Full, FaultBefore, InDoubt, Fault, NoMemory}
+use Rattle.odb_transdb.specs.declared.error.TransdbError.TheVariants.{NoDatabase, Damaged, Full, FaultBefore, InDoubt, NotClean, Held, Fault, NoMemory}
 use Rattle.odb_transdb.specs.Header.{side_start, first_on, active_first, other_of, first_by, first_held}
 use Rattle.odb_transdb.specs.Opened.{Opened, holding, side_list, side_entries, joined, with_entries, first_other, with_sides, with_header, opened, entries_of, entries_in}
-use Rattle.odb_transdb.specs.Standing.{Db, IsOfSide, IsLiveBy, Stands}
+use Rattle.odb_transdb.specs.Standing.{Db, IsOfSide, IsLiveBy, IsSettled, Stands}
 use Rattle.odb_transdb.specs.Answers.{IsAnswerBy, IsOpenAnswer}
 use Rattle.odb_transdb.specs.Walking.{live_read, sides_read, IsReadOf}
 use Rattle.odb_transdb.specs.Opening.{IsUnless, IsChecked}
@@ -32,19 +32,21 @@ pub unless_answer : {T U : Type 0} (P : T → Type 0) (Q : U → Opened → Type
 unless_answer P Q what shown NoDatabase same told = absurd told
 unless_answer P Q what shown (Damaged at) same told = same ∙ told
 unless_answer P Q what shown (Full need room) same told = absurd told
+unless_answer P Q what shown NotClean same told = absurd told
+unless_answer P Q what shown (Held mark last) same told = absurd told
 unless_answer P Q what shown FaultBefore same told = absurd told
 unless_answer P Q what shown (InDoubt number) same told = absurd told
 unless_answer P Q what shown Fault same told = tt
 unless_answer P Q what shown NoMemory same told = absurd told
 
-record Parts (a b : Result (List Entry) ℕ) (all : List Entry) : Type 0 where
-  front : List Entry
-  rest : List Entry
-  first : a ≡ Ok front
-  second : b ≡ Ok rest
-  both : all ≡ front ++ rest
+pub record Parts (a b : Result (List Entry) ℕ) (all : List Entry) : Type 0 where
+  pub front : List Entry
+  pub rest : List Entry
+  pub first : a ≡ Ok front
+  pub second : b ≡ Ok rest
+  pub both : all ≡ front ++ rest
 
-joined_parts : (a b : Result (List Entry) ℕ) (all : List Entry) → joined a b ≡ Ok all → Parts a b all
+pub joined_parts : (a b : Result (List Entry) ℕ) (all : List Entry) → joined a b ≡ Ok all → Parts a b all
 joined_parts (Ok front) (Ok rest) all is = let same : front ++ rest ≡ all = cc is in record { front = front; rest = rest; first = refl; second = refl; both = sym same }
 joined_parts (Ok front) (Err at) all is = absurd (cc is)
 joined_parts (Err at) b all is = absurd (cc is)
@@ -104,19 +106,19 @@ module _ (pair : PairState) (h : Header) (live : Option Log) (active : Log) (o n
   abbrev pub made : Db
   made = record { header = h; pair = pair; active = active; live = live }
 
-  pub stands_sides : ReadNow now → Stands made now
-  stands_sides read = of_files o now are read
+  pub stands_sides : IsSettled made → ReadNow now → Stands made now
+  stands_sides settled read = of_files o now are read
     where
       of_files : (o now : Option File) → AreOpen pair h live active o now → ReadNow now → Stands made now
-      of_files None now are read = subst (Stands made) (sym are.based) tt
-      of_files (Some f) None are read = tt
+      of_files None now are read = subst (Stands made) (sym are.based) settled
+      of_files (Some f) None are read = settled
       of_files (Some f) (Some g) are read =
           let holds = shows f g are ∙ ap (with_entries h) read.1 in
           let by_state = sym (sides_by h h.other g.bytes) ∙ read.1 in
           stands_made made read.0 (Some g) are.reads are.stands are.lives
           (each_weakens (IsBased pair h (opened f.bytes)) (PairStandsFor pair) (Some g) (λ image one. one.pair_is) are.based)
           (each_weakens (IsBased pair h (opened f.bytes)) (Has h read.0) (Some g) (λ image one. holds_has h read.0 image (one.opens ∙ holds)) are.based)
-          (held_count h active g are.side are.stands are.reads h.other live read.0 are.by are.lives by_state)
+          (held_count h active g are.side are.stands are.reads h.other live read.0 are.by are.lives by_state) settled
 
   pub entries_sides : entries_in now ≡ entries_in o
   entries_sides = of_files o now are

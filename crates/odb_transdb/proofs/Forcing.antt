@@ -24,7 +24,7 @@ use Rattle.odb_transdb.specs.Worlds.{KeepsOrAddsEntry, WritesBehindGate, Rewrite
 use Rattle.odb_transdb.specs.Leaving.{MovesOn}
 use Rattle.odb_transdb.proofs.Opened.{Has, has_holds}
 use Rattle.odb_transdb.proofs.Sides.{IsInside, has_more}
-use Rattle.odb_transdb.proofs.Standing.{log_list, stands_has, stands_pair, stands_log, stands_live, has_all, entries_read, entries_same, stands_made, pair_stays, adds_torn, with_active, is_db_with, side_with, region_of, low_active, live_stays, keeps_torn, keeps_has, adds_has, keeps_stands}
+use Rattle.odb_transdb.proofs.Standing.{log_list, stands_has, stands_pair, stands_log, stands_live, has_all, entries_read, entries_same, stands_made, pair_stays, adds_torn, with_active, stands_settled, settled_with, is_db_with, side_with, region_of, low_active, live_stays, keeps_torn, keeps_has, adds_has, keeps_stands}
 
 -- where there is room for a record it lies inside the active side
 abbrev pub HasRoom : Db → Type 0
@@ -50,7 +50,7 @@ module _ (db : Db) (is : IsDb db) (room : HasRoom db) where
       keeps_has db is (db.active.place + 1) (db.active.end - (db.active.place + 1)) (inside_behind db is room (place_inside db f stands reads)) (entries_in (Some f)) (Some f) p keeps (stands_has db (Some f) stands)
 
   behind_stands : (log : Log) (o p : Option File) → Stands db o → ReadsImage o → KeepsBehind db.active o p → is_some p ≡ is_some o → ReadsImage p → LogStands log p → log.next ≡ db.active.next → Stands (with_active db log) p
-  behind_stands log None p stands before keeps told reads active same = subst (Stands (with_active db log)) (sym keeps) tt
+  behind_stands log None p stands before keeps told reads active same = subst (Stands (with_active db log)) (sym keeps) (settled_with db log stands)
   behind_stands log (Some f) p stands before keeps told reads active same =
       keeps_stands db is (db.active.place + 1) (db.active.end - (db.active.place + 1)) (inside_behind db is room (place_inside db f stands before)) log (Some f) p stands keeps told reads active same
 
@@ -258,14 +258,14 @@ module _ (db : Db) (is : IsDb db) (room : HasRoom db) (w now : World) (stands : 
     gate_stands = of_old (file_of 0 w) stands before gate_torn gate_has
       where
         of_old : (o : Option File) → Stands db o → ReadsImage o → TornFrom db.active.place 1 o (file_of 0 now) → EachImage (Has db.header (entries_in o ++ e ∷ [])) (file_of 0 now) → Stands (with_active db log) (file_of 0 now)
-        of_old None stands old_reads torn has = subst (Stands (with_active db log)) (sym torn) tt
+        of_old None stands old_reads torn has = subst (Stands (with_active db log)) (sym torn) (settled_with db log stands)
         of_old (Some f) stands old_reads torn has =
             let inside = inside_gate db is room (place_inside db f stands old_reads) in
             let far : 1024 ≤ db.active.place = omega (arith, inside.low) in
             stands_made (with_active db log) (entries_in (Some f) ++ e ∷ []) (file_of 0 now) reads active
             (live_stays db is db.active.place 1 inside (Some f) (file_of 0 now) (stands_live db (Some f) stands) torn reads)
             (pair_stays db.pair db.active.place 1 (Some f) (file_of 0 now) far (stands_pair db (Some f) stands) torn) has
-            (omega (arith, stands.3, next, length-append (entries_in (Some f)) (e ∷ [])))
+            (omega (arith, stands.3, next, length-append (entries_in (Some f)) (e ∷ []))) (settled_with db log (stands_settled db (Some f) stands))
 
 -- whatever it leaves, no other byte than the gate has changed
 pub opening_only : (db : Db) (w now : World) → IsDb db

@@ -17,3 +17,12 @@ pub mod Finds
 pub mod Pairs
 pub mod Gates
 pub mod Leaving
+pub mod Contents
+pub mod Heading
+pub mod Settling
+pub mod Turning
+pub mod Cleaning
+pub mod Invariants
+pub mod Composing
+pub mod Quiet
+pub mod Gathered

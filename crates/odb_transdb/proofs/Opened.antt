@@ -63,19 +63,19 @@ has_holds h entries bytes has = opens_read h bytes has.order ∙ ap (with_entrie
 
 -- what the sides tell, where they hold entries
 record Told (h made : Header) (entries : List Entry) (read : Result (List Entry) ℕ) : Type 0 where
-  same : made ≡ h
+  pub same : made ≡ h
   is : read ≡ Ok entries
 
 told_read : (h made : Header) (entries : List Entry) (read : Result (List Entry) ℕ) → with_entries made read ≡ holding h entries → Told h made entries read
 told_read h made entries (Ok found) e = record { same = cc e; is = cc e }
 told_read h made entries (Err at) e = absurd (cc e)
 
-record TellsSides (h made : Header) (entries : List Entry) (o : OtherSide) (bytes : List ℕ) : Type 0 where
-  same : made ≡ h
-  sound : IsSound made o bytes
-  is : read_by made o bytes ≡ Ok entries
+pub record TellsSides (h made : Header) (entries : List Entry) (o : OtherSide) (bytes : List ℕ) : Type 0 where
+  pub same : made ≡ h
+  pub sound : IsSound made o bytes
+  pub is : read_by made o bytes ≡ Ok entries
 
-sides_told : (h made : Header) (entries : List Entry) (o : OtherSide) (bytes : List ℕ) → with_sides made o bytes ≡ holding h entries → TellsSides h made entries o bytes
+pub sides_told : (h made : Header) (entries : List Entry) (o : OtherSide) (bytes : List ℕ) → with_sides made o bytes ≡ holding h entries → TellsSides h made entries o bytes
 sides_told h made entries Live bytes e = of_test (first_on made (other_of made) + length (side_list made (other_of made) bytes) == active_first made) refl
   where
     of_test : (b : Bool) → (first_on made (other_of made) + length (side_list made (other_of made) bytes) == active_first made) ≡ b → TellsSides h made entries Live bytes

@@ -11,7 +11,7 @@ use Rattle.odb_device.proofs.Torn.{each_weakens}
 use Rattle.odb_pair.specs.Places.{Opened as PairOpened, no_open_place, malformed, holding as holding_value, opened as pair_opened}
 use Rattle.odb_transdb.specs.declared.header.Header.{Header}
 use Rattle.odb_transdb.specs.declared.error.TransdbError.{TransdbError}
-use Rattle.odb_transdb.specs.declared.error.TransdbError.TheVariants.{NoDatabase, Damaged, Full, FaultBefore, InDoubt, Fault, NoMemory}
+use Rattle.odb_transdb.specs.declared.error.TransdbError.TheVariants.{NoDatabase, Damaged, Full, FaultBefore, InDoubt, NotClean, Held, Fault, NoMemory}
 use Rattle.odb_transdb.specs.Header.{header_of}
 use Rattle.odb_transdb.specs.Opened.{Opened, damaged, with_header, with_pair, opened}
 use Rattle.odb_transdb.specs.Answers.{IsAnswerBy, KeepsOpened, ClosesGates}
@@ -78,6 +78,8 @@ pair_refused P (Some f) e found = of_error e found
     of_error NoDatabase found = by_pair f.bytes no_open_place found
     of_error (Damaged at) found = by_pair f.bytes malformed found.1 ∙ ap damaged (sym found.0)
     of_error (Full need room) found = absurd found
+    of_error NotClean found = absurd found
+    of_error (Held mark last) found = absurd found
     of_error FaultBefore found = absurd found
     of_error (InDoubt number) found = absurd found
     of_error Fault found = tt

@@ -14,7 +14,7 @@ use Rattle.odb_model.specs.State.{IsNumberedFrom}
 use Rattle.odb_model.specs.Width.{records_width}
 use Rattle.odb_transdb.specs.declared.header.Header.{Header}
 use Rattle.odb_transdb.specs.declared.error.TransdbError.{TransdbError}
-use Rattle.odb_transdb.specs.declared.error.TransdbError.TheVariants.{NoDatabase, Damaged, Full, FaultBefore, InDoubt, Fault, NoMemory}
+use Rattle.odb_transdb.specs.declared.error.TransdbError.TheVariants.{NoDatabase, Damaged, Full, FaultBefore, InDoubt, NotClean, Held, Fault, NoMemory}
 use Rattle.odb_transdb.specs.Header.{side_start, side_end, first_on, active_first, other_of, first_by, first_held}
 use Rattle.odb_transdb.specs.Opened.{Opened, damaged, side_list, entries_from, side_entries, joined, with_entries, with_sides}
 use Rattle.odb_transdb.specs.Standing.{IsOfSide, IsLiveBy}
@@ -30,6 +30,8 @@ pub answer_err : {T U : Type 0} (P : T → Opened → Type 0) (Q : U → Opened 
 answer_err P Q what shown NoDatabase same told = same ∙ told
 answer_err P Q what shown (Damaged at) same told = same ∙ told
 answer_err P Q what shown (Full need room) same told = absurd told
+answer_err P Q what shown NotClean same told = absurd told
+answer_err P Q what shown (Held mark last) same told = absurd told
 answer_err P Q what shown FaultBefore same told = absurd told
 answer_err P Q what shown (InDoubt number) same told = absurd told
 answer_err P Q what shown Fault same told = tt
@@ -41,6 +43,8 @@ pub read_answer : {T U : Type 0} (P : List Entry → T → Type 0) (Q : U → Op
 read_answer P Q what read NoDatabase gives told = absurd told
 read_answer P Q what read (Damaged at) gives told = gives at told
 read_answer P Q what read (Full need room) gives told = absurd told
+read_answer P Q what read NotClean gives told = absurd told
+read_answer P Q what read (Held mark last) gives told = absurd told
 read_answer P Q what read FaultBefore gives told = absurd told
 read_answer P Q what read (InDoubt number) gives told = absurd told
 read_answer P Q what read Fault gives told = tt

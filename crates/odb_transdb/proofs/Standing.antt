@@ -19,7 +19,7 @@ use Rattle.odb_model.specs.declared.side.OtherSide.TheVariants.{Live, Dirty, Cle
 use Rattle.odb_transdb.specs.declared.header.Header.{Header}
 use Rattle.odb_transdb.specs.Header.{side_start, side_end, first_on, active_first, other_of, first_held}
 use Rattle.odb_transdb.specs.Opened.{holding, side_list, Holds, entries_of, entries_in}
-use Rattle.odb_transdb.specs.Standing.{Db, IsOfSide, IsLiveBy, IsDb, IsPlaced, Stands}
+use Rattle.odb_transdb.specs.Standing.{Db, IsOfSide, IsLiveBy, IsDb, IsPlaced, IsSettled, Stands}
 use Rattle.odb_transdb.proofs.Headers.{IsLawful, lawful_is}
 use Rattle.odb_transdb.proofs.Opened.{Has, has_holds, holds_has}
 use Rattle.odb_transdb.proofs.Sides.{IsInside, active_sides, beside, has_kept, has_more}
@@ -51,6 +51,10 @@ stands_live db None stands = of_live db.live
     of_live (Some log) = tt
 stands_live db (Some f) stands = stands.1
 
+pub stands_settled : (db : Db) (o : Option File) → Stands db o → IsSettled db
+stands_settled db None stands = stands
+stands_settled db (Some f) stands = stands.4
+
 pub has_all : (h : Header) (entries : List Entry) (o : Option File) → EachImage (Has h entries) o → EachImage (Holds h entries) o
 has_all h entries o each = each_weakens (Has h entries) (Holds h entries) o (λ image has. has_holds h entries image has) each
 
@@ -66,14 +70,15 @@ entries_same h (Some f) (Some g) told reads each = entries_read h (entries_in (S
 
 -- all that stands, put together
 pub stands_made : (db : Db) (entries : List Entry) (o : Option File) → ReadsImage o → LogStands db.active o → IfSome db.live (λ log. LogStands log o) → EachImage (PairStandsFor db.pair) o → EachImage (Has db.header entries) o
-    → first_held db.header + length entries ≡ db.active.next → Stands db o
-stands_made db entries None reads active live pair has count = tt
-stands_made db entries (Some f) reads active live pair has count =
+    → first_held db.header + length entries ≡ db.active.next → IsSettled db → Stands db o
+stands_made db entries None reads active live pair has count settled = settled
+stands_made db entries (Some f) reads active live pair has count settled =
     let same = entries_read db.header entries f reads has in (
       active,
       live,
       λ image is. record { pair = pair image is; holds = has_holds db.header entries image (has image is) ∙ ap (holding db.header) (sym same) },
       ap (λ (l : List Entry). first_held db.header + length l) same ∙ count,
+      settled,
     )
 
 -- a log of another region of the file still stands
@@ -105,6 +110,9 @@ adds_torn start end first payload at n (Some f) now adds =
 abbrev pub with_active : Db → Log → Db
 with_active db log = record { header = db.header; pair = db.pair; active = log; live = db.live }
 
+pub settled_with : (db : Db) (log : Log) → IsSettled db → IsSettled (with_active db log)
+settled_with db log is = record { lawful = is.lawful; settled = is.settled; value = is.value; tried = is.tried }
+
 live_with : (h : Header) (o : OtherSide) (live : Option Log) (old new : Log) → new.first ≡ old.first → IsLiveBy h o live old → IsLiveBy h o live new
 live_with h Live (Some log) old new same is = (is.0, is.1 ∙ sym same, is.2)
 live_with h Live None old new same is = is
@@ -120,8 +128,7 @@ pub is_db_with : (db : Db) (log : Log) → SameRegion db.active log → db.activ
 is_db_with db log same further later is = record {
   lawful = is.lawful;
   file = is.file;
-  settled = is.settled;
-  value = is.value;
+  kept = is.kept;
   active = side_with db.header db.header.active db.active log same is.active;
   place = omega (arith, same.start, is.place);
   from = omega (arith, is.from);
@@ -207,9 +214,9 @@ module _ (db : Db) (is : IsDb db) (at n : ℕ) (inside : IsInside db.header db.h
   -- a call that leaves the list leaves all that stands
   pub keeps_stands : (log : Log) (o now : Option File) → Stands db o → KeepsLists db.active.start db.active.end db.active.first at n o now → is_some now ≡ is_some o → ReadsImage now → LogStands log now
       → log.next ≡ db.active.next → Stands (with_active db log) now
-  keeps_stands log None now stands keeps told reads active same = subst (Stands (with_active db log)) (sym keeps) tt
+  keeps_stands log None now stands keeps told reads active same = subst (Stands (with_active db log)) (sym keeps) (settled_with db log stands)
   keeps_stands log (Some f) now stands keeps told reads active same =
       let torn = keeps_torn db.active.start db.active.end db.active.first at n (Some f) now keeps in
       let far : 1024 ≤ at = omega (arith, inside.low) in
       stands_made (with_active db log) (entries_in (Some f)) now reads active (live_stays (Some f) now (stands_live db (Some f) stands) torn reads) (pair_stays db.pair at n (Some f) now far (stands_pair db (Some f) stands) torn)
-      (keeps_has (entries_in (Some f)) (Some f) now keeps (stands_has db (Some f) stands)) (stands.3 ∙ sym same)
+      (keeps_has (entries_in (Some f)) (Some f) now keeps (stands_has db (Some f) stands)) (stands.3 ∙ sym same) (settled_with db log (stands_settled db (Some f) stands))

@@ -20,7 +20,7 @@ use Rattle.odb_model.specs.declared.entry.Entry.{Entry}
 use Rattle.odb_model.specs.State.{IsNumberedFrom}
 use Rattle.odb_model.specs.Width.{record_width}
 use Rattle.odb_transdb.specs.declared.error.TransdbError.{TransdbError}
-use Rattle.odb_transdb.specs.declared.error.TransdbError.TheVariants.{NoDatabase, Damaged, Full, FaultBefore, InDoubt, Fault, NoMemory}
+use Rattle.odb_transdb.specs.declared.error.TransdbError.TheVariants.{NoDatabase, Damaged, Full, FaultBefore, InDoubt, NotClean, Held, Fault, NoMemory}
 use Rattle.odb_transdb.specs.Opened.{entries_from}
 use Rattle.odb_transdb.specs.Walking.{IsReadOf, IsRecordOf, IsEntryOf, IsPart, AddsPart, AddsSome}
 use Rattle.odb_transdb.proofs.Entries.{read_more, read_fault, count_read}
@@ -224,6 +224,8 @@ module _ (from start first : ℕ) (list : List (List ℕ)) (base items : List En
   record_refused NoDatabase told = told
   record_refused (Damaged place) told = absurd (told.1 (record { number = number; payload = next.payload; next = at + HEAD + length next.payload }) next.there refl)
   record_refused (Full need room) told = told
+  record_refused NotClean told = told
+  record_refused (Held mark last) told = told
   record_refused FaultBefore told = told
   record_refused (InDoubt n) told = told
   record_refused Fault told = tt
@@ -237,6 +239,8 @@ module _ (from start first : ℕ) (list : List (List ℕ)) (base items : List En
       let one : read_entry number next.payload ≡ Err told.1.0 = ap (λ (n : ℕ). read_entry n next.payload) (sym same) ∙ ap (read_entry r.number) (sym payload) ∙ told.1.1 in
       fault_next from start first list base items at number so_far next told.1.0 one ∙ ap Err (sym told.0)
   entry_refused r there same (Full need room) told = absurd told
+  entry_refused r there same NotClean told = absurd told
+  entry_refused r there same (Held mark last) told = absurd told
   entry_refused r there same FaultBefore told = absurd told
   entry_refused r there same (InDoubt n) told = absurd told
   entry_refused r there same Fault told = absurd told

@@ -12,7 +12,7 @@ use Rattle.odb_model.specs.declared.side.OtherSide.TheVariants.{Live}
 use Rattle.odb_transdb.specs.declared.header.Header.{Header}
 use Rattle.odb_transdb.specs.declared.error.TransdbError.{TransdbError}
 use Rattle.odb_transdb.specs.declared.opening.OpenedTransdb.{OpenedTransdb}
-use Rattle.odb_transdb.specs.declared.error.TransdbError.TheVariants.{NoDatabase, Damaged, Full, FaultBefore, InDoubt, Fault, NoMemory}
+use Rattle.odb_transdb.specs.declared.error.TransdbError.TheVariants.{NoDatabase, Damaged, Full, FaultBefore, InDoubt, NotClean, Held, Fault, NoMemory}
 use Rattle.odb_transdb.specs.Header.{header_of, side_start, side_end, file_size, first_on, other_of}
 use Rattle.odb_transdb.specs.Opened.{Opened, no_database, damaged, holding, Holds, opened}
 use Rattle.odb_transdb.specs.Standing.{Db, room_of}
@@ -27,6 +27,8 @@ IsAnswerBy P (Err (Damaged at)) what = what ≡ damaged at
 IsAnswerBy P (Err Fault) what = Unit {0}
 IsAnswerBy P (Err NoMemory) what = Unit {0}
 IsAnswerBy P (Err (Full need room)) what = ⊥
+IsAnswerBy P (Err NotClean) what = ⊥
+IsAnswerBy P (Err (Held mark last)) what = ⊥
 IsAnswerBy P (Err FaultBefore) what = ⊥
 IsAnswerBy P (Err (InDoubt number)) what = ⊥
 
@@ -46,6 +48,8 @@ IsOpenRefusal (Err (Damaged at)) = Unit {0}
 IsOpenRefusal (Err Fault) = Unit {0}
 IsOpenRefusal (Err NoMemory) = Unit {0}
 IsOpenRefusal (Err (Full need room)) = ⊥
+IsOpenRefusal (Err NotClean) = ⊥
+IsOpenRefusal (Err (Held mark last)) = ⊥
 IsOpenRefusal (Err FaultBefore) = ⊥
 IsOpenRefusal (Err (InDoubt number)) = ⊥
 
@@ -57,6 +61,8 @@ IsReadRefusal (Err Fault) = Unit {0}
 IsReadRefusal (Err NoMemory) = Unit {0}
 IsReadRefusal (Err NoDatabase) = ⊥
 IsReadRefusal (Err (Full need room)) = ⊥
+IsReadRefusal (Err NotClean) = ⊥
+IsReadRefusal (Err (Held mark last)) = ⊥
 IsReadRefusal (Err FaultBefore) = ⊥
 IsReadRefusal (Err (InDoubt number)) = ⊥
 
@@ -107,6 +113,8 @@ IsForceAnswer n db (Err (InDoubt number)) = (HEAD + n ≤ room_of db) × (number
 IsForceAnswer n db (Err NoDatabase) = ⊥
 IsForceAnswer n db (Err (Damaged at)) = ⊥
 IsForceAnswer n db (Err Fault) = ⊥
+IsForceAnswer n db (Err NotClean) = ⊥
+IsForceAnswer n db (Err (Held mark last)) = ⊥
 IsForceAnswer n db (Err NoMemory) = ⊥
 
 -- each image holds just these entries

@@ -100,3 +100,18 @@ first_held h = first_by h h.other
 abbrev pub new_header : ℕ → Header
 new_header kib =
     record { format = 1; side_kib = kib; active = 0; other = Clean; first0 = 1; first1 = 1 }
+
+-- the same header, with the other side in this state
+abbrev pub with_other : OtherSide → Header → Header
+with_other state h = record h { other = state }
+
+-- After a turn: the side that wasn't active is, with this first number, and the one that was is Live
+abbrev pub turned : ℕ → Header → Header
+turned n h = record {
+  format = h.format;
+  side_kib = h.side_kib;
+  active = other_of h;
+  other = Live;
+  first0 = if h.active == 0 then h.first0 else n;
+  first1 = if h.active == 0 then n else h.first1;
+}

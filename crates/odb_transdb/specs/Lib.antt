@@ -7,3 +7,4 @@ pub mod Walking
 pub mod Opening
 pub mod Worlds
 pub mod Leaving
+pub mod Turning

@@ -9,7 +9,7 @@ use Rattle.odb_reclog.specs.Standing.{Log}
 use Rattle.odb_model.specs.declared.side.OtherSide.TheVariants.{Live, Clean}
 use Rattle.odb_transdb.specs.declared.header.Header.{Header}
 use Rattle.odb_transdb.specs.declared.error.TransdbError.{TransdbError}
-use Rattle.odb_transdb.specs.declared.error.TransdbError.TheVariants.{NoDatabase, Damaged, Full, FaultBefore, InDoubt, Fault, NoMemory}
+use Rattle.odb_transdb.specs.declared.error.TransdbError.TheVariants.{NoDatabase, Damaged, Full, FaultBefore, InDoubt, NotClean, Held, Fault, NoMemory}
 use Rattle.odb_transdb.specs.Header.{side_start, side_end, file_size, first_on, active_first, other_of}
 use Rattle.odb_transdb.specs.Opened.{Opened, damaged, side_list, first_other}
 use Rattle.odb_transdb.specs.Standing.{IsLiveBy}
@@ -22,6 +22,8 @@ IsPairFound (Err (Damaged at)) what = (at ≡ 0) × (what ≡ malformed)
 IsPairFound (Err Fault) what = Unit {0}
 IsPairFound (Err NoMemory) what = ⊥
 IsPairFound (Err (Full need room)) what = ⊥
+IsPairFound (Err NotClean) what = ⊥
+IsPairFound (Err (Held mark last)) what = ⊥
 IsPairFound (Err FaultBefore) what = ⊥
 IsPairFound (Err (InDoubt number)) what = ⊥
 
@@ -33,6 +35,8 @@ IsUnless what P (Err Fault) = Unit {0}
 IsUnless what P (Err NoMemory) = ⊥
 IsUnless what P (Err NoDatabase) = ⊥
 IsUnless what P (Err (Full need room)) = ⊥
+IsUnless what P (Err NotClean) = ⊥
+IsUnless what P (Err (Held mark last)) = ⊥
 IsUnless what P (Err FaultBefore) = ⊥
 IsUnless what P (Err (InDoubt number)) = ⊥
 

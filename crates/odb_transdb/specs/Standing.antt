@@ -39,12 +39,13 @@ IsLiveBy h Dirty None active = Unit {0}
 IsLiveBy h Clean (Some log) active = ⊥
 IsLiveBy h Clean None active = Unit {0}
 
--- the pair of file 0 keeps the lawful header, and the logs are those of its sides
+-- the header is lawful, the pair of file 0 keeps it where that is settled, and the logs are those of
+-- its sides
 pub record IsDb (db : Db) : Type 0 where
   pub lawful : IsTrue (is_header db.header)
   pub file : db.pair.file ≡ 0
-  pub settled : db.pair.settled ≡ true
-  pub value : db.pair.value ≡ header_image db.header
+  pub kept : db.pair.settled ≡ true
+      → (db.pair.value ≡ header_image db.header) × (db.pair.tried ≡ db.pair.value)
   pub active : IsOfSide db.header db.header.active db.active
   pub place : db.active.start ≤ db.active.place
   pub from : first_on db.header db.header.active ≤ db.active.next
@@ -64,19 +65,28 @@ pub record AreAlikePlaced (old new : Db) : Type 0 where
   pub before : IsPlaced old
   pub after : IsPlaced new
 
+-- no crash leaves another header in the pair than this one
+pub record IsSettled (db : Db) : Type 0 where
+  pub lawful : IsTrue (is_header db.header)
+  pub settled : db.pair.settled ≡ true
+  pub value : db.pair.value ≡ header_image db.header
+  pub tried : db.pair.tried ≡ db.pair.value
+
 -- the bytes are those of the pair, and hold these entries
 pub record StandsFor (db : Db) (entries : List Entry) (bytes : List ℕ) : Type 0 where
   pub pair : PairStandsFor db.pair bytes
   pub holds : Holds db.header entries bytes
 
--- Each image holds the entries that a read gives, which end where the next record's number begins,
--- and each log stands for its side. Of a file that isn't told this says nothing
+-- The pair is settled, each image holds the entries that a read gives, which end where the next
+-- record's number begins, and each log stands for its side. Of a file that isn't told this says that
+-- the pair is settled
 abbrev pub Stands : Db → Option File → Type 0
-Stands db None = Unit {0}
+Stands db None = IsSettled db
 Stands db (Some file) =
     LogStands db.active (Some file) × IfSome db.live (λ log. LogStands log (Some file))
     × EachImage (StandsFor db (entries_in (Some file))) (Some file)
     × (first_held db.header + length (entries_in (Some file)) ≡ db.active.next)
+    × IsSettled db
 
 -- the bytes left on the active side
 abbrev pub room_of : Db → ℕ

@@ -17,10 +17,13 @@ abbrev pub IsWritten : Db → Entry → Option File → Type 0
 IsWritten db e file = IfSome file
     (λ f. read_entry db.active.next (payload_at db.active.place f.bytes) ≡ Ok e)
 
--- the bytes go on to a place at least, and those from 1,024 to before it are zeros
-pub record IsBlank (end : ℕ) (bytes : List ℕ) : Type 0 where
+-- the bytes go on to a place at least, and those from another to before it are zeros
+pub record IsBlankFrom (start end : ℕ) (bytes : List ℕ) : Type 0 where
   pub long : end ≤ length bytes
-  pub zero : AreZero 1024 end bytes
+  pub zero : AreZero start end bytes
+
+abbrev pub IsBlank : ℕ → List ℕ → Type 0
+IsBlank end bytes = IsBlankFrom 1024 end bytes
 
 -- the pair is that of the bytes from before, where these were as long as a pair
 abbrev pub KeepsPair : List ℕ → List ℕ → Type 0

@@ -11,7 +11,7 @@ use Rattle.odb_model.specs.State.{IsNumberedFrom}
 use Rattle.odb_model.specs.Width.{record_width, records_width}
 use Rattle.odb_transdb.specs.declared.header.Header.{Header}
 use Rattle.odb_transdb.specs.declared.error.TransdbError.{TransdbError}
-use Rattle.odb_transdb.specs.declared.error.TransdbError.TheVariants.{NoDatabase, Damaged, Full, FaultBefore, InDoubt, Fault, NoMemory}
+use Rattle.odb_transdb.specs.declared.error.TransdbError.TheVariants.{NoDatabase, Damaged, Full, FaultBefore, InDoubt, NotClean, Held, Fault, NoMemory}
 use Rattle.odb_transdb.specs.Header.{side_start, first_on, other_of}
 use Rattle.odb_transdb.specs.Opened.{entries_from, side_entries, joined}
 
@@ -44,6 +44,8 @@ IsReadOf P read (Err Fault) = Unit {0}
 IsReadOf P read (Err NoMemory) = Unit {0}
 IsReadOf P read (Err NoDatabase) = ⊥
 IsReadOf P read (Err (Full need room)) = ⊥
+IsReadOf P read (Err NotClean) = ⊥
+IsReadOf P read (Err (Held mark last)) = ⊥
 IsReadOf P read (Err FaultBefore) = ⊥
 IsReadOf P read (Err (InDoubt number)) = ⊥
 
@@ -56,6 +58,8 @@ IsRecordOf found at number (Err Fault) = Unit {0}
 IsRecordOf found at number (Err NoMemory) = Unit {0}
 IsRecordOf found at number (Err NoDatabase) = ⊥
 IsRecordOf found at number (Err (Full need room)) = ⊥
+IsRecordOf found at number (Err NotClean) = ⊥
+IsRecordOf found at number (Err (Held mark last)) = ⊥
 IsRecordOf found at number (Err FaultBefore) = ⊥
 IsRecordOf found at number (Err (InDoubt other)) = ⊥
 
@@ -70,6 +74,8 @@ IsEntryOf number payload at (Err NoMemory) = Unit {0}
 IsEntryOf number payload at (Err Fault) = ⊥
 IsEntryOf number payload at (Err NoDatabase) = ⊥
 IsEntryOf number payload at (Err (Full need room)) = ⊥
+IsEntryOf number payload at (Err NotClean) = ⊥
+IsEntryOf number payload at (Err (Held mark last)) = ⊥
 IsEntryOf number payload at (Err FaultBefore) = ⊥
 IsEntryOf number payload at (Err (InDoubt other)) = ⊥
 

@@ -1,5 +1,5 @@
 -- What calls of TRANSDB leave of file 0, said of the worlds before and after them.
-use Rattle.std.specs.Prelude.{◌≡◌, ◌≢◌, ◌+◌, ◌-◌, ◌≤◌, ℕ, true, false, List, [], ◌∷◌, ◌++◌, length, IsTrue, IfSome, Some, Result, Err, OnOk, IfOk}
+use Rattle.std.specs.Prelude.{◌≡◌, ◌≢◌, ◌+◌, ◌-◌, ◌≤◌, ℕ, true, false, List, [], ◌∷◌, ◌++◌, length, IsTrue, IfSome, Some, Result, Ok, Err, OnOk, IfOk}
 use Rattle.odb_device.specs.World.{World, file_of}
 use Rattle.odb_device.specs.Images.{EachImage, IsKept}
 use Rattle.odb_device.specs.Calls.{FileCountRose, IsOnePut, Keeps}
@@ -12,11 +12,12 @@ use Rattle.odb_reclog.specs.Told.{IfTold}
 use Rattle.odb_reclog.specs.Regions.{region, TearsOpenEnd}
 use Rattle.odb_reclog.specs.Records.{OPEN, HEAD, payload_at, log_of, end_of_list}
 use Rattle.odb_reclog.specs.Standing.{HasItsBody}
+use Rattle.odb_codec.specs.Reading.{read_entry}
 use Rattle.odb_model.specs.declared.entry.Entry.{Entry}
 use Rattle.odb_model.specs.State.{IsNumberedFrom}
 use Rattle.odb_transdb.specs.declared.header.Header.{Header}
 use Rattle.odb_transdb.specs.declared.error.TransdbError.{TransdbError}
-use Rattle.odb_transdb.specs.declared.error.TransdbError.TheVariants.{NoDatabase, Fault}
+use Rattle.odb_transdb.specs.declared.error.TransdbError.TheVariants.{NoDatabase, FaultBefore, InDoubt, Fault}
 use Rattle.odb_transdb.specs.Header.{header_image, is_header, side_start, side_end, first_on, active_first, first_held}
 use Rattle.odb_transdb.specs.Opened.{entries_in}
 use Rattle.odb_transdb.specs.Opening.{KeepsSide}
@@ -92,6 +93,7 @@ pub record HasPair (pair : PairState) (h : Header) (w : World) : Type 0 where
   pub value : pair.value ≡ header_image h
   pub file : pair.file ≡ 0
   pub settled : pair.settled ≡ true
+  pub tried : pair.tried ≡ pair.value
   pub kept : IsKept (file_of 0 w)
   pub stands : EachImage (PairStandsFor pair) (file_of 0 w)
   pub found : IfTold 0 w (λ bytes. pair_opened bytes ≡ holding_value pair.value)
@@ -175,6 +177,18 @@ pub record RoseAtGate (db : Db) (payload : List ℕ) (old new : World) : Type 0 
 pub record LeavesInDoubt (payload : List ℕ) (old new : Db) (before after : World) : Type 0 where
   pub gate : RoseAtGate old payload before after
   pub place : SamePlace old new
+
+-- What forcing a record with this payload does to the log and its file, where the pair is settled
+pub record Forces
+    (payload : List ℕ) (result : Result ℕ TransdbError) (old new : Db) (before after : World) :
+    Type 0 where
+  pub entry : (e : Entry) → read_entry old.active.next payload ≡ Ok e
+      → PutsEntry old e result before after
+  pub forced : OnOk result (IsForced (length payload) old new after)
+  pub faulted : result ≡ Err FaultBefore → FaultedBefore old new before after
+  pub doubt : (number : ℕ) → result ≡ Err (InDoubt number)
+      → LeavesInDoubt payload old new before after
+  pub only : WritesFromGate old before after
 
 -- behind the closed gate of the next record, in this stretch, its body was written with this
 -- payload, and put on the disk

@@ -1,21 +1,18 @@
 //! A new database.
-ghost use Rattle.std.specs.Prelude.{◌≡◌, ◌+◌, ◌-◌, ◌^◌, ◌<◌, ◌≤◌, [], OnOk, IfErr};
+ghost use Rattle.std.specs.Prelude.{◌≡◌, ◌≤◌, [], OnOk, IfErr};
 ghost use Rattle.odb_device.specs.World.{file_of};
 ghost use Rattle.odb_device.specs.Images.{EachImage};
 ghost use Rattle.odb_device.specs.Calls.{HasCause};
 ghost use Rattle.odb_device.specs.Moments.{Runs};
-ghost use Rattle.odb_reclog.specs.Told.{TearsOnly};
 ghost use Rattle.odb_transdb.specs.Header.{new_header};
-ghost use Rattle.odb_transdb.specs.Steps.{IsBlank, PairComesLast};
+ghost use Rattle.odb_transdb.specs.Steps.{PairComesLast};
 
 use crate::header::{Header, SIDES};
 use crate::transdb::FILE;
+use crate::zeros::zero_range;
 use crate::{Transdb, TransdbError};
-use odb_device::{Failed, Store, write_zeros};
+use odb_device::Store;
 use odb_pair::Pair;
-
-/// How many bytes are zeroed by one write.
-const PIECE: u64 = 65_536;
 
 impl Transdb {
     ghost use Rattle.odb_transdb.specs.Opened.{Holds};
@@ -40,26 +37,10 @@ impl Transdb {
         ensures cause { HasCause 0 (S.world store.old) (S.world store.new) result }
     {
         let header = Header::new(side_kib as u16);
-        zero_sides(store, header.file_size())?;
+        zero_range(store, SIDES, header.file_size())?;
         match Pair::format(store, FILE, &header.image()) {
             Ok(_) => Ok(()),
             Err(_) => Err(TransdbError::Fault),
         }
     }
-}
-
-/// Makes the bytes of file 0 from 1,024 to before `end` zeros on the disk.
-fn zero_sides<S: Store>(store: &mut S, end: u64) -> Result<(), Failed>
-    requires { (1024 < end) × (end ≤ 2 ^ 40) }
-    ensures run { TearsOnly 0 1024 (end - 1024) (S.world store.old) (S.world store.new) }
-    ensures blank { OnOk result (EachImage (IsBlank end) (file_of 0 (S.world store.new))) }
-    ensures cause { HasCause 0 (S.world store.old) (S.world store.new) result }
-{
-    let mut at = SIDES;
-    while at < end {
-        let size = (end - at).min(PIECE);
-        write_zeros(store, FILE, at, size as usize)?;
-        at += size;
-    }
-    store.sync(FILE)
 }

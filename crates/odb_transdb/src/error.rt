@@ -29,6 +29,14 @@ pub enum TransdbError {
     /// this number is there is told by the next opening alone.
     #[error("it is not known whether entry {number} is there")]
     InDoubt { number: u64 },
+    /// 6: the side that isn't active isn't clean: it holds entries, or what is left of some.
+    /// Nothing has changed.
+    #[error("the other side is not clean")]
+    NotClean,
+    /// 7: the live side ends with the entry `last`, and of its entries those up to `mark` alone
+    /// may go. Nothing has changed.
+    #[error("the live side goes up to entry {last}, and entries may go up to {mark}")]
+    Held { mark: u64, last: u64 },
     /// 8: a call on the file failed.
     #[error("a call on the file failed")]
     Fault,

@@ -1,7 +1,7 @@
 //! How a commit becomes durable.
-ghost use Rattle.std.specs.Prelude.{◌≡◌, ℕ, ◌+◌, ◌≤◌, false, [], ◌∷◌, length, Ok, Err, IfOk, OnOk, OnErr};
+ghost use Rattle.std.specs.Prelude.{◌≡◌, ℕ, ◌+◌, ◌≤◌, true, false, List, [], ◌∷◌, length, Ok, Err, IfOk, OnOk, OnErr};
 ghost use Rattle.odb_device.specs.World.{file_of};
-ghost use Rattle.odb_device.specs.Calls.{FileCountRose, IsOnePut};
+ghost use Rattle.odb_device.specs.Calls.{HasCause, FileCountRose, IsOnePut};
 ghost use Rattle.odb_device.specs.Moments.{WritesWithin};
 ghost use Rattle.odb_reclog.specs.Records.{OPEN, HEAD};
 ghost use Rattle.odb_codec.specs.Reading.{read_entry};
@@ -10,20 +10,24 @@ ghost use Rattle.odb_model.specs.declared.entry.Entry.{Entry};
 use crate::transdb::HEAD_SIZE;
 use crate::{Transdb, TransdbError};
 use odb_device::Store;
+use odb_pair::PairError;
 use odb_reclog::RecError;
 
 impl Transdb {
-    ghost use Rattle.odb_transdb.specs.Standing.{Stands, IsPlaced, AreAlikePlaced, SamePlace};
+    ghost use Rattle.odb_transdb.specs.Standing.{Stands, IsPlaced, AreAlikePlaced, SamePlace, room_of};
+    ghost use Rattle.odb_transdb.specs.Turning.{MayStand, StandsSince, SameSides, RunsSettling, SettlesFirst};
     ghost use Rattle.odb_transdb.specs.Answers.{IsEntryImage, IsForceAnswer};
     ghost use Rattle.odb_transdb.specs.Leaving.{MovesOn};
-    ghost use Rattle.odb_transdb.specs.Worlds.{KeepsEntries, PutsEntry, IsForced, FaultedBefore, LeavesInDoubt, WritesBehindGate, WritesFromGate, Settles, IsRecorded, IsWrittenIn, IsAtGate};
+    ghost use Rattle.odb_transdb.specs.Worlds.{KeepsEntries, PutsEntry, Forces, IsForced, FaultedBefore, LeavesInDoubt, WritesBehindGate, WritesFromGate, Settles, IsRecorded, IsWrittenIn, IsAtGate};
 
     /// Adds an entry, whose image these bytes are, and answers its number once it is on the disk.
     ///
-    /// It writes the record behind its closed gate, syncs, opens the gate and syncs: three writes
-    /// and two syncs, and no read, where the tail of the active side is clear. It is so after each
-    /// Ok; after opening and after `FaultBefore` it is cleared first, which reads the rest of the
-    /// side once, or writes what a broken record may have left, with one sync more where it wrote.
+    /// Where the pair is settled it writes the record behind its closed gate, syncs, opens the gate
+    /// and syncs: three writes and two syncs, and no read, where the tail of the active side is
+    /// clear. It is so after each Ok; after opening and after `FaultBefore` it is cleared first,
+    /// which reads the rest of the side once, or writes what a broken record may have left, with
+    /// one sync more where it wrote. After a `turn` or a `clean` that failed the header is put once
+    /// more before all else: three writes and three syncs at most.
     ///
     /// At each moment a crash leaves the entries before, or those and this one; after Ok the
     /// latter, and nothing behind its record.
@@ -39,19 +43,17 @@ impl Transdb {
     pub fn force<S: Store>(&mut self, store: &mut S, payload: &[u8]) -> Result<u64, TransdbError>
         requires usable { self.old.active.in_doubt ≡ false }
         requires payload { IsEntryImage payload.now }
-        requires stands { Stands self.old (file_of 0 (S.world store.old)) }
+        requires stands { MayStand self.old (file_of 0 (S.world store.old)) }
         ensures answer { IsForceAnswer (length payload.now) self.old result }
-        ensures entry { (e : Entry) → read_entry self.old.active.next payload.now ≡ Ok e
-            → PutsEntry self.old e result (S.world store.old) (S.world store.new) }
-        ensures forced { OnOk result
-            (IsForced (length payload.now) self.old self.new (S.world store.new)) }
+        ensures forces { Stands self.old (file_of 0 (S.world store.old))
+            → Forces payload.now result self.old self.new
+            (S.world store.old) (S.world store.new) }
+        ensures settles { HEAD + length payload.now ≤ room_of self.old → (all : List Entry)
+            → StandsSince self.old all (file_of 0 (S.world store.old))
+            → SettlesFirst payload.now all result self.old self.new
+            (S.world store.old) (S.world store.new) }
         ensures full { (need room : ℕ) → result ≡ Err (TransdbError.Full need room)
             → (self.new ≡ self.old) × (store.new ≡ store.old) }
-        ensures before { result ≡ Err TransdbError.FaultBefore
-            → FaultedBefore self.old self.new (S.world store.old) (S.world store.new) }
-        ensures doubt { (number : ℕ) → result ≡ Err (TransdbError.InDoubt number)
-            → LeavesInDoubt payload.now self.old self.new (S.world store.old) (S.world store.new) }
-        ensures only { WritesFromGate self.old (S.world store.old) (S.world store.new) }
         ensures placed { AreAlikePlaced self.old self.new }
     {
         let need = HEAD_SIZE + payload.len() as u64;
@@ -59,6 +61,54 @@ impl Transdb {
         if room < need {
             return Err(TransdbError::Full { need, room });
         }
+        match self.settle(store) {
+            Ok(()) => self.force_settled(store, payload),
+            Err(_) => Err(TransdbError::FaultBefore),
+        }
+    }
+
+    /// Puts the header once more where the pair is unsettled.
+    fn settle<S: Store>(&mut self, store: &mut S) -> Result<(), PairError>
+        requires stands { MayStand self.old (file_of 0 (S.world store.old)) }
+        ensures run { (all : List Entry) → StandsSince self.old all (file_of 0 (S.world store.old))
+            → RunsSettling all self.old self.new (S.world store.old) (S.world store.new) }
+        ensures quiet { self.old.pair.settled ≡ true
+            → (result ≡ Ok tt) × (self.new ≡ self.old) × (store.new ≡ store.old) }
+        ensures sides { SameSides self.old self.new }
+        ensures stands { OnOk result (Stands self.new (file_of 0 (S.world store.new))) }
+        ensures placed { IsPlaced self.new }
+        ensures cause { HasCause 0 (S.world store.old) (S.world store.new) result }
+    {
+        if self.pair.settled() {
+            return Ok(());
+        }
+        let image = self.header.image();
+        self.pair.put(store, &image)
+    }
+
+    /// Adds an entry as `force` does, where the pair is settled and there is room.
+    fn force_settled<S: Store>(
+        &mut self,
+        store: &mut S,
+        payload: &[u8],
+    ) -> Result<u64, TransdbError>
+        requires usable { self.old.active.in_doubt ≡ false }
+        requires payload { IsEntryImage payload.now }
+        requires room { HEAD + length payload.now ≤ room_of self.old }
+        requires placed { IsPlaced self.old }
+        requires stands { Stands self.old (file_of 0 (S.world store.old)) }
+        ensures answer { IsForceAnswer (length payload.now) self.old result }
+        ensures entry { (e : Entry) → read_entry self.old.active.next payload.now ≡ Ok e
+            → PutsEntry self.old e result (S.world store.old) (S.world store.new) }
+        ensures forced { OnOk result
+            (IsForced (length payload.now) self.old self.new (S.world store.new)) }
+        ensures before { result ≡ Err TransdbError.FaultBefore
+            → FaultedBefore self.old self.new (S.world store.old) (S.world store.new) }
+        ensures doubt { (number : ℕ) → result ≡ Err (TransdbError.InDoubt number)
+            → LeavesInDoubt payload.now self.old self.new (S.world store.old) (S.world store.new) }
+        ensures only { WritesFromGate self.old (S.world store.old) (S.world store.new) }
+        ensures placed { AreAlikePlaced self.old self.new }
+    {
         if self.write_record(store, payload).is_err() {
             return Err(TransdbError::FaultBefore);
         }

@@ -1,7 +1,7 @@
 //! What the forty bytes of the pair say.
 ghost use Rattle.std.specs.Prelude.{◌≡◌, ◌+◌, ◌^◌, ◌≤◌, IsTrue};
 ghost use Rattle.std.specs.Int.{is_in_range};
-ghost use Rattle.odb_transdb.specs.Header.{header_image, header_of, is_header, new_header, side_start, side_size, file_size, first_on, first_held, other_of, state_byte, state_of};
+ghost use Rattle.odb_transdb.specs.Header.{header_image, header_of, is_header, new_header, side_start, side_size, file_size, first_on, first_held, other_of, state_byte, state_of, with_other, turned};
 
 use byteorder::{BigEndian, ByteOrder};
 use odb_model::OtherSide;
@@ -90,6 +90,35 @@ impl Header {
         ensures { result ≡ other_of self.now }
     {
         if self.active == 0 { 1 } else { 0 }
+    }
+
+    /// The same header, with the other side in this state.
+    pub(crate) fn with_other(&self, state: OtherSide) -> Header
+        ensures { result ≡ with_other state self.now }
+    {
+        Header {
+            other: state,
+            ..*self
+        }
+    }
+
+    /// What it is after a turn: the other side is active, with this first number, and the one that
+    /// was is Live.
+    pub(crate) fn turned(&self, number: u64) -> Header
+        ensures { result ≡ turned number self.now }
+    {
+        let (first0, first1) = if self.active == 0 {
+            (self.first0, number)
+        } else {
+            (number, self.first1)
+        };
+        Header {
+            active: self.other_side(),
+            other: OtherSide::Live,
+            first0,
+            first1,
+            ..*self
+        }
     }
 
     /// The first byte of a side, from the file's start.

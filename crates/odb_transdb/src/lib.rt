@@ -5,6 +5,7 @@
 //! file's front.
 #![tactic(auto)]
 
+mod clean;
 mod create;
 mod error;
 mod force;
@@ -12,6 +13,8 @@ mod header;
 mod opening;
 mod reading;
 mod transdb;
+mod turn;
+mod zeros;
 
 pub use error::TransdbError;
 pub use header::Header;

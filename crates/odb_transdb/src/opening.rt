@@ -103,6 +103,7 @@ fn open_pair<S: Store>(store: &mut S) -> Result<Pair, TransdbError>
     ensures stands { IfOk result (λ pair. EachImage (PairStandsFor pair)
         (file_of 0 (S.world store.new))) }
     ensures pair { IfOk result (λ pair. (pair.file ≡ 0) × (pair.settled ≡ true)) }
+    ensures tried { IfOk result (λ pair. pair.tried ≡ pair.value) }
     ensures refusal { IsOpenRefusal result }
     ensures cause { result ≡ Err TransdbError.Fault
         → FileCountRose 0 (S.world store.old) (S.world store.new) }

@@ -26,6 +26,7 @@ use std::alloc::{AllocError, Global};
 impl Transdb {
     ghost use Rattle.odb_transdb.specs.Opened.{entries_in};
     ghost use Rattle.odb_transdb.specs.Standing.{Stands, IsPlaced, AreWhole};
+    ghost use Rattle.odb_transdb.specs.Turning.{MayStand, GivesLast};
 
     /// The entries from a number on, which is at least `first()`, in order.
     ///
@@ -44,10 +45,12 @@ impl Transdb {
     ) -> Result<Entries, TransdbError>
         requires usable { self.now.active.in_doubt ≡ false }
         requires from { first_held self.now.header ≤ from }
-        requires stands { Stands self.now (file_of 0 (S.world store.old)) }
+        requires stands { MayStand self.now (file_of 0 (S.world store.old)) }
         ensures run { OnlyReads 0 (S.world store.old) (S.world store.new) }
-        ensures entries { IfSome (file_of 0 (S.world store.old)) (λ f. IfOk result
+        ensures entries { Stands self.now (file_of 0 (S.world store.old))
+            → IfSome (file_of 0 (S.world store.old)) (λ f. IfOk result
             (λ es. es ≡ drop (from - first_held self.now.header) (entries_in (Some f)))) }
+        ensures last { GivesLast self.now from result (file_of 0 (S.world store.old)) }
         ensures whole { IfTold 0 (S.world store.old) (λ _. IfOk result (AreWhole self.now from)) }
         ensures numbers { IfOk result (AreSome from self.now.active.next) }
         ensures placed { IsPlaced self.now }

@@ -1,7 +1,8 @@
 //! The log of commits in memory.
-ghost use Rattle.std.specs.Prelude.{◌≡◌, ◌+◌, ◌-◌};
+ghost use Rattle.std.specs.Prelude.{◌≡◌, ◌+◌, ◌-◌, ◌≤◌};
 
 use crate::Header;
+use odb_model::OtherSide;
 use odb_pair::Pair;
 use odb_reclog::RecLog;
 use std::marker::Model;
@@ -52,6 +53,21 @@ impl Transdb {
         ensures always { result ≡ 1 }
     {
         self.header.format
+    }
+
+    /// The side that takes new records, 0 or 1.
+    pub fn active(&self) -> u32
+        ensures value { result ≡ self.now.header.active }
+        ensures range { result ≤ 1 }
+    {
+        u32::from(self.header.active)
+    }
+
+    /// The state of the side that isn't active.
+    pub fn other(&self) -> OtherSide
+        ensures { result ≡ self.now.header.other }
+    {
+        self.header.other
     }
 
     /// The number of the first entry held, from 1.

@@ -10,7 +10,8 @@ use Rattle.odb_model.specs.declared.outcome.Read.{Read}
 use Rattle.odb_model.specs.State.{writes_in}
 use Rattle.odb_model.specs.Transaction.{overwrites, first_conflict}
 use Rattle.odb_txn.specs.RangeOrder.{range_cmp}
-use Rattle.odb_txn.specs.ReadSet.{JudgeAlike, earlier, keep, keep_all, least_with, oldest_number}
+use Rattle.odb_model.specs.Window.{least_with, oldest_number}
+use Rattle.odb_txn.specs.ReadSet.{JudgeAlike, earlier, keep, keep_all}
 use Rattle.odb_txn.proofs.Ranges.{range_cmp_exact}
 
 -- whether an entry is later than a read and writes a key of its range

@@ -7,6 +7,7 @@ use Rattle.odb_values.specs.declared.range.Range.{Range}
 use Rattle.odb_model.specs.declared.entry.Entry.{Entry}
 use Rattle.odb_model.specs.declared.outcome.Read.{Read}
 use Rattle.odb_model.specs.Transaction.{overwrites}
+use Rattle.odb_model.specs.Window.{oldest_number}
 use Rattle.odb_txn.specs.RangeOrder.{range_cmp}
 
 -- each range comes before those behind it, so none is there twice
@@ -30,16 +31,6 @@ keep (q ∷ reads) r =
 abbrev pub keep_all : List Read → List Read → List Read
 keep_all reads [] = reads
 keep_all reads (r ∷ more) = keep_all (keep reads r) more
-
--- the lesser of a number and another, where there is another
-abbrev pub least_with : ℕ → Option ℕ → Option ℕ
-least_with n None = Some n
-least_with n (Some m) = Some (min n m)
-
--- the least number of the reads
-abbrev pub oldest_number : List Read → Option ℕ
-oldest_number [] = None
-oldest_number (r ∷ reads) = least_with r.number (oldest_number reads)
 
 -- These reads judge a commit as the others do: each entry overwrites some of the ones just where it
 -- overwrites some of the others, and the oldest are of one number

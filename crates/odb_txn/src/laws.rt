@@ -13,7 +13,8 @@ ghost use Rattle.odb_model.specs.Intentions.{intended};
 ghost use Rattle.odb_model.specs.Serial.{HasOpenReplies};
 ghost use Rattle.odb_model.specs.Storable.{AreStorable, HasKeys};
 ghost use Rattle.odb_rowsource.specs.Intentions.{laid_over, Tells};
-ghost use Rattle.odb_txn.specs.ReadSet.{AreOrdered, JudgeAlike, keep_all, oldest_number};
+ghost use Rattle.odb_model.specs.Window.{oldest_number};
+ghost use Rattle.odb_txn.specs.ReadSet.{AreOrdered, JudgeAlike, keep_all};
 ghost use Rattle.odb_txn.specs.Transaction.{Kept, IsKept, nothing_kept, kept_with, own_keys, writes_found_rows, CanBeKept, IsNextOutcome, StandsFor};
 
 /// Reads that are kept judge a commit as all of them do: the first conflict and the oldest number

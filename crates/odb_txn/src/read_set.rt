@@ -5,7 +5,8 @@ ghost use Rattle.std.specs.List.Sorted.{IsPartitionPoint};
 ghost use Rattle.odb_model.specs.declared.outcome.Read.{Read};
 ghost use Rattle.odb_model.specs.Transaction.{read_at};
 ghost use Rattle.smallvec.specs.SmallVec.{small_vec_len, HasRoomFor};
-ghost use Rattle.odb_txn.specs.ReadSet.{AreOrdered, keep, keep_all, least_with, oldest_number, is_before, number_at};
+ghost use Rattle.odb_model.specs.Window.{least_with, oldest_number};
+ghost use Rattle.odb_txn.specs.ReadSet.{AreOrdered, keep, keep_all, is_before, number_at};
 
 use crate::range_order::cmp_range;
 use odb_model::{Ranges, Read};
@@ -40,7 +41,8 @@ impl Model for ReadSet {
     ghost coded = { listed_code read.the_row.coded };
 
     ghost use Rattle.smallvec.specs.SmallVec.{small_vec_len};
-    ghost use Rattle.odb_txn.specs.ReadSet.{AreOrdered, oldest_number};
+    ghost use Rattle.odb_model.specs.Window.{oldest_number};
+    ghost use Rattle.odb_txn.specs.ReadSet.{AreOrdered};
 
     ghost view = { λ a. record { items = a.items.items; spare = a.spare } };
 

@@ -3,7 +3,7 @@ ghost use Rattle.std.specs.Prelude.{◌≡◌, OnOk, OnErr, IfOk};
 ghost use Rattle.odb_model.specs.Intentions.{intended};
 ghost use Rattle.odb_model.specs.Script.{IsSession};
 ghost use Rattle.odb_model.specs.Storable.{IsStorableList};
-ghost use Rattle.odb_txn.specs.ReadSet.{oldest_number};
+ghost use Rattle.odb_model.specs.Window.{oldest_number};
 ghost use Rattle.odb_txn.specs.Transaction.{IsKept, nothing_kept, kept_with, CanBeKept, writes_found_rows};
 
 use crate::{ReadSet, TxnError};

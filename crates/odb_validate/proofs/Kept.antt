@@ -2,7 +2,8 @@
 use Rattle.std.proofs.Common.{◌≡◌, ℕ, ◌+◌, ◌≤◌, List, [], ◌∷◌, ◌++◌, length, length-append, arith}
 use Rattle.odb_model.specs.declared.entry.Entry.{Entry}
 use Rattle.odb_model.specs.State.{IsNumberedFrom}
-use Rattle.odb_validate.specs.Window.{write_count, window_writes, IsKept}
+use Rattle.odb_model.specs.Window.{write_count, window_writes}
+use Rattle.odb_validate.specs.Window.{IsKept}
 use Rattle.odb_validate.proofs.Suffixes.{write_count-append}
 
 numbered-push : (k : ℕ) (h : List Entry) (e : Entry) → IsNumberedFrom k h → e.number ≡ k + length h → IsNumberedFrom k (h ++ e ∷ [])

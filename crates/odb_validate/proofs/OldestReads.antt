@@ -3,7 +3,7 @@ use Rattle.std.proofs.Common.{◌≡◌, ℕ, ◌≤◌, min, List, [], ◌∷�
 use Rattle.std.proofs.lemmas.List.Elements.{All-nil, All-cons, All-head, All-tail, All-weaker}
 use Rattle.std.proofs.lemmas.Option.{same_Some, none-some}
 use Rattle.odb_model.specs.declared.outcome.Read.{Read}
-use Rattle.odb_validate.specs.Validation.{least_with, oldest_number}
+use Rattle.odb_model.specs.Window.{least_with, oldest_number}
 
 -- the lesser of two, where there are both
 abbrev pub least_of : Option ℕ → Option ℕ → Option ℕ

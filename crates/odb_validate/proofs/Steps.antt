@@ -2,7 +2,8 @@
 use Rattle.std.proofs.Common.{◌≡◌, ℕ, suc, ◌+◌, ◌-◌, ◌<◌, ◌≤◌, Bool, false, List, [], ◌∷◌, ◌++◌, length, drop, refl, ap, sym, ◌∙◌, length-append, length-drop, arith}
 use Rattle.std.proofs.lemmas.List.{drop-append-le, drop_all}
 use Rattle.odb_model.specs.declared.entry.Entry.{Entry}
-use Rattle.odb_validate.specs.Window.{Windowed, write_count, start_within, window_start, window_writes, last_number, forget, put_last, push}
+use Rattle.odb_model.specs.Window.{write_count, start_within, window_start, window_writes}
+use Rattle.odb_validate.specs.Window.{Windowed, last_number, forget, put_last, push}
 use Rattle.odb_validate.proofs.Suffixes.{start_within-whole, start_within-more, start_within-length, start_within-push, start_within-past}
 
 -- windows with the same parts

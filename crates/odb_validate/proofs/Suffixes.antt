@@ -2,7 +2,7 @@
 use Rattle.std.proofs.Common.{◌≡◌, ℕ, zero, suc, ◌+◌, ◌-◌, ◌<◌, ◌≤◌, max, Bool, true, false, nat_le, ◌⊎◌, inl, inr, ⊎_elim, List, [], ◌∷◌, ◌++◌, length, drop, refl, ap, sym, subst, if◌then◌else◌, arith}
 use Rattle.std.proofs.lemmas.Bool.Decides.{leb_tells, nat_tests}
 use Rattle.odb_model.specs.declared.entry.Entry.{Entry}
-use Rattle.odb_validate.specs.Window.{write_count, start_within}
+use Rattle.odb_model.specs.Window.{write_count, start_within}
 
 pub order : (m n : ℕ) → (m < n) ⊎ (n ≤ m)
 order m n = ⊎_elim (λ h. inr h.1) (λ h. inl h.1) (leb_tells n m)

@@ -6,7 +6,8 @@ use Rattle.odb_model.specs.declared.entry.Entry.{Entry}
 use Rattle.odb_model.specs.declared.outcome.Read.{Read}
 use Rattle.odb_model.specs.State.{IsNumberedFrom}
 use Rattle.odb_model.specs.Transaction.{first_conflict}
-use Rattle.odb_validate.specs.Validation.{oldest_number, by_age, validated}
+use Rattle.odb_model.specs.Window.{oldest_number}
+use Rattle.odb_validate.specs.Validation.{by_age, validated}
 use Rattle.odb_validate.proofs.OldestReads.{oldest-unread, oldest-least}
 use Rattle.odb_validate.proofs.Early.{first_conflict-early, first_conflict-unread}
 

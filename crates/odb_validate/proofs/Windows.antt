@@ -6,8 +6,9 @@ use Rattle.odb_model.specs.declared.entry.Entry.{Entry}
 use Rattle.odb_model.specs.declared.outcome.Read.{Read}
 use Rattle.odb_model.specs.State.{IsHistory}
 use Rattle.odb_model.specs.Transaction.{first_conflict}
-use Rattle.odb_validate.specs.Window.{Windowed, window_start, window_writes, last_number, push, IsWindow}
-use Rattle.odb_validate.specs.Validation.{oldest_number, by_age, validated}
+use Rattle.odb_model.specs.Window.{window_start, window_writes, oldest_number}
+use Rattle.odb_validate.specs.Window.{Windowed, last_number, push, IsWindow}
+use Rattle.odb_validate.specs.Validation.{by_age, validated}
 use Rattle.odb_validate.proofs.Suffixes.{order, start_within-length, start_within-append, start_within-drop}
 use Rattle.odb_validate.proofs.OldestReads.{oldest-unread, oldest-least, oldest-above}
 use Rattle.odb_validate.proofs.Early.{first_conflict-early, first_conflict-unread}

@@ -3,17 +3,8 @@ use Rattle.std.specs.Prelude.{ℕ, min, nat_lt, List, [], ◌∷◌, Option, Som
 use Rattle.odb_model.specs.declared.entry.Entry.{Entry}
 use Rattle.odb_model.specs.declared.outcome.Read.{Read}
 use Rattle.odb_model.specs.Transaction.{first_conflict}
+use Rattle.odb_model.specs.Window.{oldest_number}
 use Rattle.odb_validate.specs.declared.error.Aged.{Aged}
-
--- the lesser of a number and another, where there is another
-abbrev pub least_with : ℕ → Option ℕ → Option ℕ
-least_with n None = Some n
-least_with n (Some m) = Some (min n m)
-
--- the least number of the reads
-abbrev pub oldest_number : List Read → Option ℕ
-oldest_number [] = None
-oldest_number (r ∷ reads) = least_with r.number (oldest_number reads)
 
 -- a conflict, or none; or that the oldest read is below the start
 abbrev pub by_age : Option ℕ → ℕ → Option ℕ → Result (Option ℕ) Aged

@@ -4,26 +4,7 @@ use Rattle.std.specs.Coded.{Coded, code_by, coded×, coded_ℕ, coded_bool, code
 use Rattle.odb_model.specs.declared.entry.Entry.{Entry}
 use Rattle.odb_model.specs.contracts.entry.Entry as entry
 use Rattle.odb_model.specs.State.{IsNumberedFrom}
-
--- how many writes some entries have in all
-abbrev pub write_count : List Entry → ℕ
-write_count [] = 0
-write_count (e ∷ h) = length e.writes + write_count h
-
--- the number of entries before the longest suffix of a history that has at most so many writes in
--- all: the first suffix, from the whole history on, that has no more
-abbrev pub start_within : ℕ → List Entry → ℕ
-start_within most [] = 0
-start_within most (e ∷ h) =
-    if nat_le (write_count (e ∷ h)) most then 0 else start_within most h + 1
-
--- how many writes a window has at most
-abbrev pub window_writes : ℕ
-window_writes = 262144
-
--- the number of entries before the longest suffix of a history that has at most 262,144 writes
-abbrev pub window_start : List Entry → ℕ
-window_start h = start_within window_writes h
+use Rattle.odb_model.specs.Window.{write_count, window_start, window_writes}
 
 -- what is seen of a window: the number of entries before it, its entries, and whether the place of
 -- the next one is reserved

@@ -3,7 +3,8 @@ ghost use Rattle.std.specs.Prelude.{◌≡◌, ℕ, ◌<◌, ◌≤◌, List, []
 ghost use Rattle.odb_model.specs.declared.entry.Entry.{Entry};
 ghost use Rattle.odb_model.specs.declared.outcome.Read.{Read};
 ghost use Rattle.odb_model.specs.State.{IsHistory};
-ghost use Rattle.odb_validate.specs.Window.{Windowed, write_count, window_start, window_writes, last_number, push, reserve, IsWindow};
+ghost use Rattle.odb_model.specs.Window.{write_count, window_start, window_writes};
+ghost use Rattle.odb_validate.specs.Window.{Windowed, last_number, push, reserve, IsWindow};
 ghost use Rattle.odb_validate.specs.Validation.{validated};
 
 /// The start of a history's window is the number of entries before its longest suffix that has at

@@ -1,6 +1,6 @@
 //! The oldest of some reads.
 ghost use Rattle.std.specs.Prelude.{◌≡◌, Some};
-ghost use Rattle.odb_validate.specs.Validation.{least_with, oldest_number};
+ghost use Rattle.odb_model.specs.Window.{least_with, oldest_number};
 
 use odb_model::Read;
 

@@ -1,6 +1,7 @@
 //! The last entries of the history.
 ghost use Rattle.std.specs.Prelude.{◌≡◌, ◌+◌, ◌<◌, ◌≤◌, false, [], length, IsTrue, IsOk, OnOk, OnErr};
-ghost use Rattle.odb_validate.specs.Window.{write_count, start_within, window_writes, last_number, reserve, forget, put_last, push};
+ghost use Rattle.odb_model.specs.Window.{write_count, start_within, window_writes};
+ghost use Rattle.odb_validate.specs.Window.{last_number, reserve, forget, put_last, push};
 ghost use Rattle.odb_validate.specs.Validation.{validated};
 
 use crate::oldest::oldest_number;

@@ -89,6 +89,10 @@ fn plain_reply(word: &str, rest: &str) -> Result<Reply, LineError> {
     }
     match (word, number_of(rest)) {
         ("FULL", Some(room)) => Ok(Reply::Full { need: first, room }),
+        ("AGED", Some(start)) => Ok(Reply::Aged {
+            oldest: first,
+            start,
+        }),
         _ => Err(LineError::Unreadable("no reply has this word")),
     }
 }
@@ -105,6 +109,11 @@ fn bare_reply(word: &str) -> Result<Reply, LineError> {
         "NOTRANSACTION" => Ok(Reply::NoTransaction),
         "INTRANSACTION" => Ok(Reply::InTransaction),
         "NOTABLE" => Ok(Reply::NoTable),
+        "NOBANK" => Ok(Reply::NoBank),
+        "NAMETAKEN" => Ok(Reply::NameTaken),
+        "NOTEMPTY" => Ok(Reply::NotEmpty),
+        "NONUMBERLEFT" => Ok(Reply::NoNumberLeft),
+        "FIXED" => Ok(Reply::Fixed),
         "NOCOLUMN" => Ok(Reply::NoColumn),
         "KINDMISMATCH" => Ok(Reply::KindMismatch),
         "KEYCOLUMN" => Ok(Reply::KeyColumn),
@@ -116,6 +125,7 @@ fn bare_reply(word: &str) -> Result<Reply, LineError> {
         "ROWTOOWIDE" => Ok(Reply::RowTooWide),
         "TOOMANYWRITES" => Ok(Reply::TooManyWrites),
         "OVERFLOW" => Ok(Reply::Overflow),
+        "HISTORYFULL" => Ok(Reply::HistoryFull),
         "MEMORY" => Ok(Reply::Memory),
         _ => Err(LineError::Unreadable("no reply has this word")),
     }

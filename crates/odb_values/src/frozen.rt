@@ -97,7 +97,7 @@ impl<T: Duplicate + Drop> Frozen<T> {
     pub fn from_slice(alloc: Global, items: &[T]) -> Result<Frozen<T>, AllocError>
         ensures { IfOk result (λ copy. copy ≡ items.now) }
     {
-        let mut copies = Vec::new(alloc);
+        let mut copies = Vec::with_capacity(alloc, items.len())?;
         for item in items {
             copies.push(item.copy(alloc)?)?;
         }

@@ -81,6 +81,8 @@ impl BookSeat {
         ensures name { name_of self.new.place ≡ name_of self.old.place }
         ensures kept { list_of self.new.place ≡ list_of self.old.place }
         ensures shown { IsPrefix (list_of note.place) (list_of self.old.place) }
+        ensures numbered { IsNumberedFrom
+            (number_of self.old.place + 1) (list_of self.old.place) }
     {
         show_to(&self.words, &mut self.place, note);
     }
@@ -106,13 +108,16 @@ impl ViewSeat {
         ensures name { name_of self.new.place ≡ name_of self.old.place }
         ensures kept { list_of self.new.place ≡ list_of self.old.place }
         ensures shown { IsPrefix (list_of note.place) (list_of self.old.place) }
+        ensures numbered { IsNumberedFrom
+            (number_of self.old.place + 1) (list_of self.old.place) }
     {
         show_to(&self.words, &mut self.place, note);
     }
 
     /// Appends an entry by the pass's session, whose number is one above the Book's list. The three
-    /// lists are then that list with the entry; the Book's and the View's were equal. It answers
-    /// the entry's number, takes no memory, and eleven steps.
+    /// lists are then that list with the entry; the Book's and the View's were equal, and what the
+    /// pass lacked of it has no entry by its session. It answers the entry's number, takes no
+    /// memory, and twelve steps.
     pub fn append(&mut self, book: &mut BookSeat, pass: &mut Pass, entry: &Entry) -> u64
         requires book_name { name_of book.old.place ≡ name_of self.old.place }
         requires pass_name { name_of pass.old.place ≡ name_of self.old.place }
@@ -128,6 +133,10 @@ impl ViewSeat {
         ensures book { list_of book.new.place ≡ list_of book.old.place ++ entry.now ∷ [] }
         ensures pass { list_of pass.new.place ≡ list_of book.old.place ++ entry.now ∷ [] }
         ensures grows { IsPrefix (list_of pass.old.place) (list_of book.old.place) }
+        ensures mine { by_session pass.old.session (list_of book.old.place)
+            ≡ by_session pass.old.session (list_of pass.old.place) }
+        ensures numbered { IsNumberedFrom
+            (number_of book.old.place + 1) (list_of book.old.place) }
         ensures number { result ≡ entry.now.number }
     {
         append_with(
@@ -237,6 +246,7 @@ fn show_to(words: &Words, place: &mut Place, note: Note)
     ensures same { place.new.table_id ≡ place.old.table_id }
     ensures after { place.new.me ≡ (settled (heard place.old.me.0 note.place.me.0), []) }
     ensures shown { IsPrefix (list_of note.place) (list_of place.old) }
+    ensures numbered { IsNumberedFrom (number_of place.old + 1) (list_of place.old) }
 {
     let Note { place: other } = note;
     hear(words, place, other);
@@ -263,6 +273,9 @@ fn append_with(words: &Words, view: &mut Place, book: &mut Place, pass: &mut Pla
     ensures book { list_of book.new ≡ list_of book.old ++ entry.now ∷ [] }
     ensures pass { list_of pass.new ≡ list_of book.old ++ entry.now ∷ [] }
     ensures grows { IsPrefix (list_of pass.old) (list_of book.old) }
+    ensures mine { by_session entry.now.by (list_of book.old)
+        ≡ by_session entry.now.by (list_of pass.old) }
+    ensures numbered { IsNumberedFrom (number_of book.old + 1) (list_of book.old) }
 {
     let pen = lend_pen(words, book);
     hear(words, view, pen);

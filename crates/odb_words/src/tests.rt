@@ -23,7 +23,9 @@ impl RowSource for NoRows {
         Err(RowError::NoMemory)
     }
 
-    fn next(
+    type Shown = KeyedRow;
+
+    fn show(
         &mut self,
         _alloc: Global,
         _range: &Range,
@@ -48,6 +50,18 @@ fn append_first(view: &mut ViewSeat, book: &mut BookSeat, pass: &mut Pass, entry
     view.append(book, pass, entry)
 }
 
+/// A pass that has seen nothing meets what another one has seen: its list is then that one's.
+fn meet_first(pass: &mut Pass, other: &mut Pass)
+    requires names { name_of other.old.place ≡ name_of pass.old.place }
+    requires new { list_of pass.old.place ≡ [] }
+    ensures names { (name_of pass.new.place ≡ name_of pass.old.place)
+        × (name_of other.new.place ≡ name_of pass.old.place) }
+    ensures session { pass.new.session ≡ pass.old.session }
+    ensures list { list_of pass.new.place ≡ list_of other.old.place }
+{
+    pass.meet(other.note());
+}
+
 #[test]
 fn an_entry_reaches_every_list(rt: HostRuntime) -> Result<(), Fail> {
     let alloc = rt.alloc();
@@ -67,7 +81,7 @@ fn an_entry_reaches_every_list(rt: HostRuntime) -> Result<(), Fail> {
     assert_eq!(rt; append_first(&mut view, &mut book, &mut first, &entry), 1);
     let mut second = passes.take().expect(&rt, "a pass is free");
     assert_eq!(rt; second.session(), 2);
-    second.meet(first.note());
+    meet_first(&mut second, &mut first);
     copies.log.meet(second.note());
     view.seen(copies.log.note());
     book.seen(view.note());

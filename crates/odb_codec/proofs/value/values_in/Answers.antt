@@ -5,7 +5,7 @@ use Rattle.odb_codec.proofs.value.values_in.Goals as goal
 
 pub returns-in_err-value : goal.returns-in_err-value
 returns-in_err-value c =
-    let p = err_from_is_err_and c.from_residual.result c.from_residual.ensures.1 in
+    let p = err_from_is_err_and c.from_residual-in_err-value.result c.from_residual-in_err-value.ensures.1 in
     rw (p.1, p.2) (values_end c.in_err-value.field-0.0 c.loop-rest.values.items c.loop-rest.rest.now (values_in c.args.bytes.now) (some_left c.loop-rest.rest.now c.loop-rest-test.ensures) c.in_err-value.ensures c.loop-rest.invariant)
 
 pub loop-rest-smaller : goal.loop-rest-smaller

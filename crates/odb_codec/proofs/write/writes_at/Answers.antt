@@ -10,7 +10,7 @@ use Rattle.odb_codec.proofs.write.writes_at.Goals as goal
 
 pub returns-in_err-write : goal.returns-in_err-write
 returns-in_err-write c =
-    let p = err_from_is_err_and c.from_residual.result c.from_residual.ensures.1 in
+    let p = err_from_is_err_and c.from_residual-in_err-write.result c.from_residual-in_err-write.ensures.1 in
     let same : option_map table_key_of (option_copied c.last.result) ≡ last_key c.loop.writes.items =
     ap (option_map table_key_of) c.last.ensures.value ∙ ap last_key c.deref.ensures.value in
     let fails = subst (λ (b : Option TableKey). Fails c.in_err-write.field-0.0 (write_at b c.loop.rest.now)) same c.in_err-write.ensures in

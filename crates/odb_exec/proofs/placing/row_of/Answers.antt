@@ -10,6 +10,6 @@ loop-place-preserved c =
     let values = c.args.values.now in
     let p = c.loop-place.place in
     let n = length t.columns in
-    let within : p < n = omega (arith, ap length c.columns.ensures.columns) in
+    let within : p < n = omega (arith, ap length c.columns-count.ensures.columns) in
     ap (λ (l : List Value). l ++ outside t values (range_with_len (p + 1) (n - (p + 1)))) c.in_ok-put_outside.ensures
     ∙ row-one t values c.loop-place.row.items p n within ∙ c.loop-place.invariant

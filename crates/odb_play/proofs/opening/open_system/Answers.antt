@@ -15,7 +15,7 @@ returns-in-Ok-start-clause-started g c =
     let found = c.in-Ok.ensures in
     let begun = c.in-Ok-start.ensures in
     started_with c.in-Ok-start.system c.in-Ok.opened.transdb c.in-Ok.opened.entries (g.H.Outside.world c.args.host.now) (g.H.Outside.world c.open_with_entries.new.store) c.open_with_entries.ensures.leaves.run found.answer found.leaves.entries found.opened.stands
-    (sym c.first-first.ensures ∙ c.if-first-ne1.false) begun.stands begun.history.0 begun.history.1
+    (sym c.first-first.ensures ∙ c.if-first-ne1.false) begun.stands begun.log.0 begun.log.1
 
 pub returns-in-Err-clause-refused : goal.returns-in-Err-clause-refused
 returns-in-Err-clause-refused g c =

@@ -1,9 +1,10 @@
 use Rattle.std.proofs.Common.{sym, subst}
+use Rattle.odb_device.proofs.Time.{begins}
 use Rattle.odb_model.specs.declared.reply.Head.{Head}
 use Rattle.odb_model.specs.declared.reply.Reply.{Reply}
 use Rattle.odb_play.specs.Played.{Replies}
 use Rattle.odb_play.specs.Lines.{head_of, reply_of}
-use Rattle.odb_play.proofs.Told.{replies_event, refused, holds_still}
+use Rattle.odb_play.proofs.Told.{asked, replies_event, refused}
 use Rattle.odb_play.proofs.player.reply_to.Goals as goal
 
 pub returns-in-Ok-clause-answer : goal.returns-in-Ok-clause-answer
@@ -20,5 +21,8 @@ returns-in-Err-clause-answer g c = λ m stands rests.
     (subst (λ (reply : Reply). Replies c.args.line.now m (head_of c.in-Err.refusal) reply c.args.system.now w w) (sym c.reply.ensures)
     (refused c.args.line.now m (head_of c.in-Err.refusal) (reply_of c.in-Err.refusal) c.args.system.now w c.in-Err.ensures.refused stands rests))
 
-pub returns-in-Err-clause-run : goal.returns-in-Err-clause-run
-returns-in-Err-clause-run g c = holds_still c.args.system.now (g.H.Outside.world c.args.host.now) c.requires.durable
+pub returns-in-Err-clause-only : goal.returns-in-Err-clause-only
+returns-in-Err-clause-only g c = begins 0 (λ _. Unit {0}) (g.H.Outside.world c.args.host.now) tt
+
+pub step-requires-clause-asked : goal.step-requires-clause-asked
+step-requires-clause-asked g c = asked c.args.line.now c.in-Ok.event c.in-Ok.ensures.event

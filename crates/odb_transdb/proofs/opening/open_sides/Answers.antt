@@ -254,6 +254,7 @@ returns-clause-opened g c =
     let active_is = c.in_ok-active.ensures.opened in
     record {
       stands = stands_sides c.args.pair h c.in_ok-other.other.log active o now (are g at.In_ok-active is so_far)
+          (record { lawful = c.requires.found.lawful; settled = c.requires.found.settled; value = c.requires.found.value; tried = c.requires.found.tried })
           (read_all c.args.pair h items all o now (front g at.After-open_active is so_far) c.in_ok-active.ensures.told);
       usable = c.in_ok-active.ensures.opened.usable;
       numbers = subst (λ (l : List Entry). IsNumberedFrom held l × (held + length l ≡ active.next)) (sym c.new.ensures)

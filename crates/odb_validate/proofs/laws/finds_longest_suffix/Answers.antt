@@ -1,4 +1,4 @@
-use Rattle.odb_validate.specs.Window.{window_writes}
+use Rattle.odb_model.specs.Window.{window_writes}
 use Rattle.odb_validate.proofs.Suffixes.{start_within-length, start_within-fits, start_within-longest}
 use Rattle.odb_validate.proofs.laws.finds_longest_suffix.Goals as goal
 

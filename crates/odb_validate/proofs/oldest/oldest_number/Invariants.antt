@@ -1,5 +1,5 @@
 use Rattle.std.proofs.Common.{◌≡◌, drop}
-use Rattle.odb_validate.specs.Validation.{oldest_number}
+use Rattle.odb_model.specs.Window.{oldest_number}
 use Rattle.odb_validate.proofs.OldestReads.{least_of}
 use Rattle.odb_validate.proofs.oldest.oldest_number.Given as goal
 

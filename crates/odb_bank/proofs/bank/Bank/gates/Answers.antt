@@ -122,7 +122,7 @@ returns-in-Err-clause-history g c =
     let slots : List Kept = (with_items c.self.inside.slots one).items in
     subst (λ (b : BankState). (h : History) → StandsFor h b (file_of (file_number b) w) → StandsFor h (with_slots v v.phase slots) (file_of (file_number b) now)) c.self.view_is
     (λ h stands. subst (λ (p : Phase). StandsFor h (with_slots v p slots) (file_of (file_number v) now)) (sym phase)
-    (history_doubts v c.self.inside.file c.self.invariant phase (2 ^ 40) h slots (file_of (file_number v) w) (file_of (file_number v) now) (items ∙ first) stands torn))
+    (history_doubts v c.self.inside.file c.self.invariant phase (2 ^ 40) (marked_so c.self.inside.file v c.self.invariant phase c.limit-limit.ensures.holds (omega arith)) h slots (file_of (file_number v) w) (file_of (file_number v) now) (items ∙ first) stands torn))
 
 pub returns-in-Ok-clause-run : goal.returns-in-Ok-clause-run
 returns-in-Ok-clause-run g c =
@@ -215,7 +215,7 @@ returns-in-Ok-clause-history g c =
     let opens = subst (λ (l : List ℕ). EachImage (HaveGates OPEN l (length l)) (file_of c.self.inside.file now)) c.as_slice.ensures.value c.in-Ok.ensures.done in
     let done : EachImage (HaveGates OPEN v.run (length v.run)) (file_of (file_number v) now) = subst (λ (n : ℕ). EachImage (HaveGates OPEN v.run (length v.run)) (file_of n now)) (sym c.self.invariant.number) opens in
     subst (λ (b : BankState). (h : History) → StandsFor h b (file_of (file_number b) w) → StandsFor h (with_slots v Gates slots) (file_of (file_number b) now)) c.self.view_is
-    (λ h stands. history_opens v c.self.inside.file c.self.invariant phase (2 ^ 40) h slots (file_of (file_number v) w) (file_of (file_number v) now) (again ∙ second) stands torn done)
+    (λ h stands. history_opens v c.self.inside.file c.self.invariant phase (2 ^ 40) (marked_so c.self.inside.file v c.self.invariant phase c.limit-limit.ensures.holds (omega arith)) h slots (file_of (file_number v) w) (file_of (file_number v) now) (again ∙ second) stands torn done)
 
 pub returns-in-Ok-clause-opened : goal.returns-in-Ok-clause-opened
 returns-in-Ok-clause-opened g c =

@@ -7,12 +7,20 @@ use Rattle.odb_bank.specs.declared.phase.Phase.TheVariants.{Idle}
 use Rattle.odb_bank.specs.Fields.{bank_image}
 use Rattle.odb_bank.specs.Bank.{BankState}
 use Rattle.odb_bank.specs.Finding.{AreSlotsOf}
-use Rattle.odb_bank.proofs.OpenedFile.{opening_run, kept_told, opened_stands, opened_stands_for}
+use Rattle.odb_bank.proofs.OpenedFile.{opening_run, opening_keeps, kept_told, opened_stands, opened_stands_for}
 use Rattle.odb_bank.proofs.bank.Bank.open.Goals as goal
 
 pub returns-in_err-slots-clause-run : goal.returns-in_err-slots-clause-run
 returns-in_err-slots-clause-run g c =
     opening_run c.args.file (g.S.Outside.world c.args.store.now) (g.S.Outside.world c.open.new.store) (g.S.Outside.world c.slots_in.new.store) c.open.ensures.run c.slots_in.ensures.run
+
+pub returns-in_err-slots-clause-kept : goal.returns-in_err-slots-clause-kept
+returns-in_err-slots-clause-kept g c = λ other.
+    opening_keeps c.args.file (g.S.Outside.world c.args.store.now) (g.S.Outside.world c.open.new.store) (g.S.Outside.world c.slots_in.new.store) (c.in-Ok.ensures.kept (λ e. cc e)) c.slots_in.ensures.run
+
+pub returns-clause-kept : goal.returns-clause-kept
+returns-clause-kept g c = λ other.
+    opening_keeps c.args.file (g.S.Outside.world c.args.store.now) (g.S.Outside.world c.open.new.store) (g.S.Outside.world c.slots_in.new.store) (c.in-Ok.ensures.kept (λ e. cc e)) c.slots_in.ensures.run
 
 pub returns-clause-run : goal.returns-clause-run
 returns-clause-run g c =

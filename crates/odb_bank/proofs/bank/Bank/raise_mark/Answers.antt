@@ -2,6 +2,7 @@ use Rattle.std.proofs.Common.{◌≡◌, ◌^◌, ◌<◌, sym, subst, arith, ru
 use Rattle.odb_device.specs.World.{file_of}
 use Rattle.odb_device.specs.Images.{EachImage}
 use Rattle.odb_device.specs.Moments.{Runs}
+use Rattle.odb_device.proofs.Time.{run_end}
 use Rattle.odb_extent.specs.Standing.{limit_of, HoldsAt}
 use Rattle.odb_bank.specs.declared.phase.Phase.{Phase}
 use Rattle.odb_bank.specs.declared.phase.Phase.TheVariants.{Idle, Gates}
@@ -90,7 +91,10 @@ returns-in-Ok-clause-history g c =
     let e = c.put_fields.new.self in
     let same = c.in-Ok.ensures.put.limit_is in
     subst (λ (b : BankState). (h : History) → StandsFor h b (file_of (file_number b) w) → StandsFor h (with_mark v e v.reached Idle) (file_of (file_number b) now)) c.self.view_is
-    (λ h stands. raise_over v c.self.inside.file c.self.invariant phase small w now runs e same c.put_fields.ensures.stands h stands)
+    (λ h stands.
+    let done = raise_done v c.self.inside.file c.self.invariant phase small w now runs h stands
+    (subst (λ (f : _). EachImage (HoldsAt v.extents (limit_of v.extents) f) (file_of (file_number v) now)) c.image.ensures c.in-Ok.ensures.holds) in
+    raise_over v c.self.inside.file c.self.invariant phase small w now runs e same c.put_fields.ensures.stands h done stands)
 
 pub returns-in-Err-clause-run : goal.returns-in-Err-clause-run
 returns-in-Err-clause-run g c =
@@ -151,4 +155,5 @@ returns-in-Err-clause-history g c =
     let same = c.in-Err.ensures.tried.limit_is in
     subst (λ (b : BankState). (h : History) → StandsFor h b (file_of (file_number b) w) → StandsFor h (with_mark v e v.mark v.phase) (file_of (file_number b) now)) c.self.view_is
     (λ h stands. subst (λ (p : Phase). StandsFor h (with_mark v e v.mark p) (file_of (file_number v) now)) (sym phase)
-    (raise_again v c.self.inside.file c.self.invariant phase small w now runs e same c.put_fields.ensures.stands h stands))
+    (raise_again v c.self.inside.file c.self.invariant phase small w now runs e same c.put_fields.ensures.stands h
+    (run_end (file_number v) (EachImage (StandsByMark h v)) w now (raise_run v c.self.inside.file c.self.invariant phase small w now runs h stands)) stands))

@@ -1,4 +1,4 @@
-use Rattle.std.proofs.Common.{◌∙◌, ap, arith, ◌∷◌, [], ◌++◌, List, sym, subst, ◌≡◌, length, ◌+◌, ◌<◌, ◌^◌}
+use Rattle.std.proofs.Common.{◌∙◌, ap, ◌∷◌, [], ◌++◌, List, sym, subst, ◌≡◌, length, ◌+◌, ◌<◌, ◌^◌}
 use Rattle.odb_model.specs.declared.entry.Entry.{Entry}
 use Rattle.odb_keytable.proofs.Placings.{joined}
 use Rattle.odb_keytable.proofs.pending.Pending.push.Goals as goal

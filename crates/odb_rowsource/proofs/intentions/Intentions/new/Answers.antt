@@ -1,6 +1,6 @@
-use Rattle.std.proofs.Common.{sym, subst, List, arith, ap, length, ◌≤◌}
+use Rattle.std.proofs.Common.{sym, subst, List, arith}
 use Rattle.odb_model.specs.declared.intention.Intention.{Intention}
-use Rattle.odb_rowsource.specs.Intentions.{AreAscending, AreIntentions}
+use Rattle.odb_rowsource.specs.Intentions.{AreIntentions}
 use Rattle.odb_rowsource.proofs.Intended.{AreIntentions-none}
 use Rattle.odb_rowsource.proofs.intentions.Intentions.new.Goals as goal
 

@@ -1,30 +1,79 @@
-use Rattle.std.proofs.Common.{◌≡◌, ◌≢◌, ◌<◌, [], List, length, Option, Some, None, ap, subst, sym, ◌∙◌, rules, arith}
-use Rattle.std.proofs.lemmas.Bool.{false≢true}
-use Rattle.odb_model.specs.declared.entry.Entry.{Entry}
-use Rattle.odb_model.specs.declared.outcome.Read.{Read}
-use Rattle.odb_model.specs.declared.write.Write.{Write}
-use Rattle.odb_model.specs.Transaction.{first_conflict}
-use Rattle.odb_model.specs.Intentions.{intended}
+use Rattle.std.proofs.Common.{◌≡◌, ◌<◌, ℕ, Bool, true, false, cond, List, length, Option, Some, None, ap, subst, sym, ◌∙◌, arith}
+use Rattle.std.specs.Prelude.{slice_set}
+use Rattle.odb_device.specs.World.{World}
+use Rattle.odb_model.specs.declared.reply.Reply.{Reply}
+use Rattle.odb_model.specs.Book.{ends_transaction}
+use Rattle.odb_transdb.specs.Header.{first_held}
+use Rattle.odb_keytable.specs.Committed.{Committed}
 use Rattle.odb_txn.specs.Transaction.{Kept}
-use Rattle.odb_system.specs.Held.{Held, HeldSeals, HeldCommits, session_at}
-use Rattle.odb_system.proofs.Resting.{session_here, commits}
+use Rattle.odb_commit.specs.Parts.{Parts, prepared}
+use Rattle.odb_system.specs.Held.{Held, HeldCommits, without_place, session_at, sessions_behind}
+use Rattle.odb_system.proofs.Holding.{held_on, session_here}
+use Rattle.odb_system.proofs.Behind.{aligned_out}
+use Rattle.odb_system.proofs.Prepared.{Came, came, commits, first_left, first_carried}
 use Rattle.odb_system.proofs.system.System.commit.Goals as goal
+use Rattle.odb_system.proofs.system.System.commit.Goals.{in-Some-1, in-None-1}
 
-pub returns-clause-step : goal.returns-clause-step
-returns-clause-step g c =
-    let held : Held = record { history = c.self.inside.history.items; sessions = c.self.inside.sessions.items; transdb = c.self.inside.transdb; in_doubt = c.self.inside.in_doubt } in
+pub invariant_of-self-else-ends_transaction : goal.invariant_of-self-else-ends_transaction
+invariant_of-self-else-ends_transaction g c =
+    let b : Parts = c.self.inside.book in
+    let mid : Parts = c.prepare-prepared.new.self in
+    let old : World = g.H.Outside.world c.args.host.now in
+    let now : World = g.H.Outside.world c.carry_out-reply.new.store in
+    let held : Held = record { book = without_place b; sessions = c.self.inside.sessions.items; rows = c.self.inside.rows.state } in
+    let begun : first_held mid.transdb.header ≡ 1 = first_left c.prepare-prepared.result b mid c.prepare-prepared.ensures.left c.self.invariant.0.first in
+    let first : first_held c.carry_out-reply.new.book.transdb.header ≡ 1 =
+    first_carried c.prepare-prepared.result c.carry_out-reply.result mid c.carry_out-reply.new.book c.self.inside.rows c.carry_out-reply.new.rows old now c.carry_out-reply.ensures.carried begun in (
+      held_on held (without_place c.carry_out-reply.new.book) c.carry_out-reply.new.rows.state c.self.invariant.0 (aligned_out c.carry_out-reply.new.book c.carry_out-reply.ensures.aligned) first c.carry_out-reply.ensures.fit.keyed,
+      c.carry_out-reply.ensures.fit.waiting,
+    )
+
+pub returns-then-ends_transaction : goal.returns-then-ends_transaction
+returns-then-ends_transaction g c =
+    let b : Parts = c.self.inside.book in
+    let mid : Parts = c.prepare-prepared.new.self in
+    let at : ℕ = c.args.at in
     let t : Kept = c.in-Some.transaction in
-    let within : c.args.at < length c.self.inside.sessions.items = omega (arith, c.requires.place, c.self.invariant.0.count) in
-    let some : session_at held c.args.at ≡ Some t = session_here c.self.inside.sessions.items c.args.at c.index.result.now within c.index.ensures ∙ c.in-Some.is in
-    let settled : held.in_doubt ≡ None = search rules in
-    let nowhere : c.first_conflict.result ≡ None = search rules in
-    let none : first_conflict t.reads held.history ≡ None =
-    ap (λ (rs : List Read). first_conflict rs held.history) (sym c.reads.ensures) ∙ ap (λ (h : List Entry). first_conflict c.reads.result.now.items h) (sym c.as_slice.ensures)
-    ∙ sym c.first_conflict.ensures ∙ nowhere in
-    let is : c.in-Ok.writes ≡ intended t.own = c.in-Ok.ensures.writes in
-    let nonempty : intended t.own ≢ [] = λ e. false≢true (c.if-is_empty.ensures.1 (is ∙ e)) in
-    subst (λ (h : Held). HeldCommits h c.args.at (session_at h c.args.at) c.seal.result c.seal.new.self) c.self.view_is
-    (subst (λ (o : Option Kept). HeldCommits held c.args.at o c.seal.result c.seal.new.self) (sym some)
-    (commits held c.args.at t c.seal.result c.seal.new.self settled none nonempty
-    (subst (λ (ws : List Write). HeldSeals held c.args.at ws c.seal.result c.seal.new.self) is
-    (subst (λ (h : Held). HeldSeals h c.args.at c.in-Ok.writes c.seal.result c.seal.new.self) (sym c.self.view_is) c.seal.ensures.step))))
+    let reply : Reply = c.carry_out-reply.result in
+    let old : World = g.H.Outside.world c.args.host.now in
+    let now : World = g.H.Outside.world c.carry_out-reply.new.store in
+    let xs : List (Option Kept) = c.self.inside.sessions.items in
+    let ys : List (Option Kept) = slice_set xs at None in
+    let held : Held = record { book = without_place b; sessions = xs; rows = c.self.inside.rows.state } in
+    let after : Held = record { book = without_place c.carry_out-reply.new.book; sessions = ys; rows = c.carry_out-reply.new.rows.state } in
+    let within : at < length xs = omega (arith, c.requires.place, c.self.invariant.0.count) in
+    let open_there : session_at held at ≡ Some t = session_here xs at c.index.result.now within c.index.ensures ∙ c.in-Some.is in
+    let step : Came held (prepared b t) reply after old now =
+    came b c.self.inside.rows xs ys (prepared b t) c.prepare-prepared.result reply mid c.carry_out-reply.new.book c.carry_out-reply.new.rows old now
+    c.self.invariant.0.first c.prepare-prepared.ensures.prepared c.prepare-prepared.ensures.left c.carry_out-reply.ensures.carried in
+    let ends : ends_transaction reply ≡ true = sym c.ends_transaction.ensures ∙ c.if-ends_transaction.true in
+    let sessions : after.sessions ≡ sessions_behind held at reply = ap (λ (e : Bool). cond e ys xs) (sym ends) in
+    let done : HeldCommits held at (session_at held at) reply after old now =
+    subst (λ (o : Option Kept). HeldCommits held at o reply after old now) (sym open_there) (commits held at t reply after old now step sessions) in
+    let left : c.match-index_mut.self ≡ after =
+    elim c.match-index_mut.branch as (λ _. c.match-index_mut.self ≡ after) [ in-Some-1 w ↦ w.self-is | in-None-1 w ↦ w.self-is ] in
+    subst (λ (h : Held). HeldCommits h at (session_at h at) reply c.match-index_mut.self old now) c.self.view_is
+    (subst (λ (a : Held). HeldCommits held at (session_at held at) reply a old now) (sym left) done)
+
+pub returns-else-ends_transaction : goal.returns-else-ends_transaction
+returns-else-ends_transaction g c =
+    let b : Parts = c.self.inside.book in
+    let mid : Parts = c.prepare-prepared.new.self in
+    let at : ℕ = c.args.at in
+    let t : Kept = c.in-Some.transaction in
+    let reply : Reply = c.carry_out-reply.result in
+    let old : World = g.H.Outside.world c.args.host.now in
+    let now : World = g.H.Outside.world c.carry_out-reply.new.store in
+    let xs : List (Option Kept) = c.self.inside.sessions.items in
+    let held : Held = record { book = without_place b; sessions = xs; rows = c.self.inside.rows.state } in
+    let after : Held = record { book = without_place c.carry_out-reply.new.book; sessions = xs; rows = c.carry_out-reply.new.rows.state } in
+    let within : at < length xs = omega (arith, c.requires.place, c.self.invariant.0.count) in
+    let open_there : session_at held at ≡ Some t = session_here xs at c.index.result.now within c.index.ensures ∙ c.in-Some.is in
+    let step : Came held (prepared b t) reply after old now =
+    came b c.self.inside.rows xs xs (prepared b t) c.prepare-prepared.result reply mid c.carry_out-reply.new.book c.carry_out-reply.new.rows old now
+    c.self.invariant.0.first c.prepare-prepared.ensures.prepared c.prepare-prepared.ensures.left c.carry_out-reply.ensures.carried in
+    let goes_on : ends_transaction reply ≡ false = sym c.ends_transaction.ensures ∙ c.if-ends_transaction.false in
+    let sessions : after.sessions ≡ sessions_behind held at reply = ap (λ (e : Bool). cond e (slice_set xs at None) xs) (sym goes_on) in
+    let done : HeldCommits held at (session_at held at) reply after old now =
+    subst (λ (o : Option Kept). HeldCommits held at o reply after old now) (sym open_there) (commits held at t reply after old now step sessions) in
+    subst (λ (h : Held). HeldCommits h at (session_at h at) reply after old now) c.self.view_is done

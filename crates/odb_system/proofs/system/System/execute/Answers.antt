@@ -1,13 +1,15 @@
 use Rattle.std.proofs.Common.{◌≡◌, ◌<◌, length, Option, Some, None, refl, ap, subst, sym, ◌∙◌, arith}
 use Rattle.std.specs.Prelude.{slice_set}
+use Rattle.odb_device.specs.World.{World}
 use Rattle.odb_model.specs.declared.reply.Reply.{Reply}
 use Rattle.odb_model.specs.declared.reply.Reply.TheVariants.{NoTransaction, Memory}
-use Rattle.odb_model.specs.State.{State, replay}
+use Rattle.odb_model.specs.State.{State}
+use Rattle.odb_transdb.specs.Standing.{Db}
 use Rattle.odb_txn.specs.Transaction.{Kept}
 use Rattle.odb_system.specs.Open.{HasKeyedRows, HasOwnKeys, IsOpen, meaning_on, grown_on}
-use Rattle.odb_system.specs.Held.{Held, AreRowsOf, HeldExecutes, session_at, with_open, grown, meaning_in}
+use Rattle.odb_system.specs.Held.{Held, IsHeld, HeldExecutes, format_in, without_place, session_at, with_open, grown, meaning_in}
 use Rattle.odb_system.proofs.Owned.{sees_keys, grown_keyed}
-use Rattle.odb_system.proofs.Resting.{executes_none, held_open, session_here, open_here, set_same}
+use Rattle.odb_system.proofs.Holding.{executes_none, held_open, session_here, open_here, set_same}
 use Rattle.odb_system.proofs.Simulates.{executed}
 use Rattle.odb_system.proofs.system.System.execute.Goals as goal
 use Rattle.odb_system.proofs.system.System.execute.Goals.{In-Some, in-Ok, in-Err}
@@ -17,23 +19,23 @@ none_here None other = refl
 none_here (Some t) other = absurd (other t refl)
 
 pub returns-in_default : goal.returns-in_default
-returns-in_default c =
-    let held : Held = record { history = c.self.inside.history.items; sessions = c.self.inside.sessions.items; transdb = c.self.inside.transdb; in_doubt = c.self.inside.in_doubt } in
+returns-in_default c = λ w.
+    let held : Held = record { book = without_place c.self.inside.book; sessions = c.self.inside.sessions.items; rows = c.self.inside.rows.state } in
     let x : Option Kept = c.index_mut.result.now in
     let within : c.args.at < length held.sessions = omega (arith, c.requires, c.self.invariant.0.count) in
     let after : Held = record held { sessions = slice_set held.sessions c.args.at x } in
-    subst (λ (h : Held). HeldExecutes h c.args.at c.args.statement.now (session_at h c.args.at) NoTransaction after) c.self.view_is
-    (executes_none held c.args.at c.args.statement.now x within c.index_mut.ensures.value (none_here x c.in_default.not-Some))
+    subst (λ (h : Held). HeldExecutes h c.args.at c.args.statement.now (session_at h c.args.at) NoTransaction after w w) c.self.view_is
+    (executes_none held c.args.at c.args.statement.now x w within c.index_mut.ensures.value (none_here x c.in_default.not-Some))
 
 module _ (c : In-Some) where
   abbrev held : Held
-  held = record { history = c.self.inside.history.items; sessions = c.self.inside.sessions.items; transdb = c.self.inside.transdb; in_doubt = c.self.inside.in_doubt }
+  held = record { book = without_place c.self.inside.book; sessions = c.self.inside.sessions.items; rows = c.self.inside.rows.state }
 
   owns_keys : HasOwnKeys c.in-Some.transaction
   owns_keys = subst IsOpen c.in-Some.is (open_here held c.args.at c.index_mut.result.now c.self.invariant.0 c.requires c.index_mut.ensures.value)
 
   sees : HasKeyedRows c.self.inside.rows.state c.in-Some.transaction
-  sees = subst (λ (s : State). HasKeyedRows s c.in-Some.transaction) (sym c.self.invariant.1.state) (sees_keys held.history c.in-Some.transaction c.self.invariant.0.keyed owns_keys)
+  sees = sees_keys c.self.inside.rows.state c.in-Some.transaction c.self.invariant.0.keyed owns_keys
 
   here : session_at held c.args.at ≡ Some c.in-Some.transaction
   here =
@@ -49,35 +51,38 @@ invariant_of-self-2 c =
     let t : Kept = c.in-Some.transaction in
     let own : HasOwnKeys c.run_statement.new.transaction =
     elim c.match-run_statement.branch as (λ _. HasOwnKeys c.run_statement.new.transaction) [
-      | in-Ok w ↦ subst HasOwnKeys (sym w.in-Ok.ensures.ok) (grown_keyed c.self.inside.rows.state c.args.statement.now t c.len-number.result c.format-format.result (sees b) (owns_keys b))
+      | in-Ok w ↦ subst HasOwnKeys (sym w.in-Ok.ensures.ok) (grown_keyed c.self.inside.rows.state c.args.statement.now t c.count-number.result c.format-format.result (sees b) (owns_keys b))
       | in-Err w ↦ subst HasOwnKeys (sym w.in-Err.ensures.err) (owns_keys b)
     ] in (
-      held_open (held b) c.args.at (Some c.run_statement.new.transaction) c.self.invariant.0 own,
-      record { state = c.run_statement.ensures.state ∙ c.self.invariant.1.state; waiting = omega (arith, c.run_statement.ensures.fewer, c.self.invariant.1.waiting) },
+      subst (λ (s : State). IsHeld (record { book = without_place c.self.inside.book; sessions = slice_set c.self.inside.sessions.items c.args.at (Some c.run_statement.new.transaction); rows = s })) (sym c.run_statement.ensures.state)
+          (held_open (held b) c.args.at (Some c.run_statement.new.transaction) c.self.invariant.0 own),
+      omega (arith, c.run_statement.ensures.fewer, c.self.invariant.1),
     )
 
 pub returns : goal.returns
-returns c =
+returns c = λ w.
     let b = (goal.at.returns c).In-Some in
     let st = c.args.statement.now in
     let t : Kept = c.in-Some.transaction in
-    let after : Held = with_open (held b) c.args.at (Some c.run_statement.new.transaction) in
-    let rows : c.self.inside.rows.state ≡ replay (held b).history = c.self.invariant.1.state in
-    let step : HeldExecutes (held b) c.args.at st (Some t) c.match-run_statement.result after =
-    elim c.match-run_statement.branch as (λ _. HeldExecutes (held b) c.args.at st (Some t) c.match-run_statement.result after) [
-      | in-Ok w ↦
-          let meant : w.in-Ok.reply ≡ (meaning_in (held b) st t).reply =
-          w.in-Ok.ensures.reply ∙ (λ i. (meaning_on (rows i) st t (c.format-format.ensures.value i)).reply) in
+    let by_format : c.format-format.result ≡ format_in (held b) = c.format-format.ensures.value ∙ ap (λ (d : Db). d.header.format) c.transdb.ensures in
+    let after : Held = record { book = (held b).book; sessions = slice_set (held b).sessions c.args.at (Some c.run_statement.new.transaction); rows = c.run_statement.new.rows.state } in
+    let with_new : after ≡ with_open (held b) c.args.at (Some c.run_statement.new.transaction) =
+    ap (λ (s : State). record { book = (held b).book; sessions = slice_set (held b).sessions c.args.at (Some c.run_statement.new.transaction); rows = s }) c.run_statement.ensures.state in
+    let step : HeldExecutes (held b) c.args.at st (Some t) c.match-run_statement.result after w w =
+    elim c.match-run_statement.branch as (λ _. HeldExecutes (held b) c.args.at st (Some t) c.match-run_statement.result after w w) [
+      | in-Ok v ↦
+          let meant : v.in-Ok.reply ≡ (meaning_in (held b) st t).reply =
+          v.in-Ok.ensures.reply ∙ (λ i. (meaning_on (held b).rows st t (by_format i)).reply) in
           let next : c.run_statement.new.transaction ≡ grown (held b) st t =
-          w.in-Ok.ensures.ok ∙ (λ i. grown_on (rows i) st t (c.len-number.ensures i) (c.format-format.ensures.value i)) in
-          subst (λ (r : Reply). HeldExecutes (held b) c.args.at st (Some t) r after) (sym w.result-is)
-          (executed (held b) c.args.at st t w.in-Ok.reply after meant (ap (λ (x : Kept). with_open (held b) c.args.at (Some x)) next))
-      | in-Err w ↦
+          v.in-Ok.ensures.ok ∙ (λ i. grown_on (held b).rows st t (c.count-number.ensures i) (by_format i)) in
+          subst (λ (r : Reply). HeldExecutes (held b) c.args.at st (Some t) r after w w) (sym v.result-is)
+          (executed (held b) c.args.at st t v.in-Ok.reply after w meant (with_new ∙ ap (λ (x : Kept). with_open (held b) c.args.at (Some x)) next))
+      | in-Err v ↦
           let same : after ≡ held b =
-          ap (λ (x : Kept). with_open (held b) c.args.at (Some x)) w.in-Err.ensures.err
+          with_new ∙ ap (λ (x : Kept). with_open (held b) c.args.at (Some x)) v.in-Err.ensures.err
           ∙ ap (with_open (held b) c.args.at) (sym c.in-Some.is)
           ∙ ap (λ xs. record (held b) { sessions = xs }) (set_same (held b).sessions c.args.at c.index_mut.result.now c.index_mut.ensures.value) in
-          subst (λ (r : Reply). HeldExecutes (held b) c.args.at st (Some t) r after) (sym w.result-is) same
+          subst (λ (r : Reply). HeldExecutes (held b) c.args.at st (Some t) r after w w) (sym v.result-is) (same, refl)
     ] in
-    subst (λ (h : Held). HeldExecutes h c.args.at st (session_at h c.args.at) c.match-run_statement.result after) c.self.view_is
-    (subst (λ (o : Option Kept). HeldExecutes (held b) c.args.at st o c.match-run_statement.result after) (sym (here b)) step)
+    subst (λ (h : Held). HeldExecutes h c.args.at st (session_at h c.args.at) c.match-run_statement.result after w w) c.self.view_is
+    (subst (λ (o : Option Kept). HeldExecutes (held b) c.args.at st o c.match-run_statement.result after w w) (sym (here b)) step)

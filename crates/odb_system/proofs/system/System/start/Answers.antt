@@ -1,22 +1,30 @@
-use Rattle.std.proofs.Common.{◌≡◌, None, subst, sym}
-use Rattle.std.specs.List.{All}
-use Rattle.odb_values.specs.Listed.{Listed}
-use Rattle.odb_model.specs.declared.entry.Entry.{Entry}
+use Rattle.std.proofs.Common.{◌≡◌, length, sym, subst}
 use Rattle.odb_model.specs.Machine.{first_machine}
-use Rattle.odb_model.specs.Storable.{HaveKeys}
-use Rattle.odb_system.specs.Held.{IsHeld, AreRowsOf, StandsFor, sides_of}
-use Rattle.odb_system.proofs.Resting.{held_first, rows_first}
+use Rattle.odb_model.specs.State.{replay}
+use Rattle.odb_commit.specs.Parts.{Parts}
+use Rattle.odb_commit.specs.Standing.{sides_of}
+use Rattle.odb_system.specs.Held.{IsHeld, StandsFor, without_place}
+use Rattle.odb_system.proofs.Holding.{first_book, book_first, held_first, rows_first, rows_keyed, none_waits}
 use Rattle.odb_system.proofs.Simulates.{stands_first}
 use Rattle.odb_system.proofs.system.System.start.Goals as goal
 
 pub invariant_of-result : goal.invariant_of-result
 invariant_of-result c =
-    let keyed = subst (λ es. All (λ (e : Entry). HaveKeys e.writes) es) c.as_slice.ensures c.in_ok-rows.ensures.keyed in
-    let rows : AreRowsOf c.args.entries c.in_ok-rows.rows = subst (λ es. AreRowsOf es c.in_ok-rows.rows) c.as_slice.ensures (rows_first c.as_slice.result.now c.in_ok-rows.rows c.in_ok-rows.ensures.rows) in
-    subst (λ (l : Listed Entry). IsHeld (record { history = l.items; sessions = c.in_ok-idle_sessions.field-0.items; transdb = c.args.transdb; in_doubt = None }) × AreRowsOf l.items c.in_ok-rows.rows) (sym c.into_list.ensures)
-    (held_first c.args.entries c.in_ok-idle_sessions.field-0.items c.args.transdb c.requires keyed c.in_ok-idle_sessions.ensures, rows)
+    let h = c.args.entries in
+    let db = c.args.transdb in
+    let rows = c.in_ok-rows.rows in
+    let book : without_place c.new.result ≡ first_book (length h) db = book_first h db c.last.result c.new-window.result c.new.result c.requires c.last.ensures c.new-window.ensures c.new.ensures in (
+      subst (λ (b : Parts). IsHeld (record { book = b; sessions = c.in_ok-sessions.sessions.items; rows = rows.state })) (sym book)
+          (held_first h c.in_ok-sessions.sessions.items db rows.state c.requires (rows_keyed h rows c.in_ok-rows.ensures.keyed c.in_ok-rows.ensures.rows) c.in_ok-sessions.ensures),
+      none_waits h rows c.new.result c.in_ok-rows.ensures.rows,
+    )
 
 pub returns-clause-stands : goal.returns-clause-stands
 returns-clause-stands c =
-    subst (λ (l : Listed Entry). StandsFor (record { history = l.items; sessions = c.in_ok-idle_sessions.field-0.items; transdb = c.args.transdb; in_doubt = None }) (first_machine c.args.transdb.header.format (sides_of c.args.transdb.header) c.args.entries)) (sym c.into_list.ensures)
-    (stands_first c.args.entries c.in_ok-idle_sessions.field-0.items c.args.transdb c.requires.numbered c.in_ok-idle_sessions.ensures)
+    let h = c.args.entries in
+    let db = c.args.transdb in
+    let rows = c.in_ok-rows.rows in
+    let book : without_place c.new.result ≡ first_book (length h) db = book_first h db c.last.result c.new-window.result c.new.result c.requires c.last.ensures c.new-window.ensures c.new.ensures in
+    let are : rows.state ≡ replay h = rows_first h rows c.in_ok-rows.ensures.rows in
+    subst (λ (b : Parts). StandsFor (record { book = b; sessions = c.in_ok-sessions.sessions.items; rows = rows.state }) (first_machine db.header.format (sides_of db.header) h)) (sym book)
+    (stands_first h c.in_ok-sessions.sessions.items db rows.state c.requires are c.in_ok-sessions.ensures)

@@ -1,13 +1,17 @@
 use Rattle.std.proofs.Common.{◌≡◌, ◌-◌, ◌∙◌, ap, List, Some, Ok, Err, Option, Result, drop, sym, subst}
-use Rattle.std.specs.Prelude.{IfSome}
+use Rattle.std.specs.Prelude.{IfSome, IsTrue}
 use Rattle.odb_device.specs.World.{File, file_of}
 use Rattle.odb_model.specs.declared.entry.Entry.{Entry}
 use Rattle.odb_transdb.specs.declared.error.TransdbError.{TransdbError}
-use Rattle.odb_transdb.specs.Header.{first_held}
+use Rattle.odb_transdb.specs.Header.{is_header, first_held}
 use Rattle.odb_transdb.specs.Opened.{entries_in}
 use Rattle.odb_transdb.specs.Standing.{Db}
+use Rattle.odb_transdb.specs.Turning.{StandsSince, AreLast}
+use Rattle.odb_transdb.specs.contracts.transdb.Transdb.{the_view}
 use Rattle.odb_transdb.specs.Walking.{sides_read, IsReadOf}
+use Rattle.odb_transdb.proofs.Heading.{since_log}
 use Rattle.odb_transdb.proofs.Joining.{given, never_damaged}
+use Rattle.odb_transdb.proofs.Gathered.{given_last, never_broken}
 use Rattle.odb_transdb.proofs.transdb.Transdb.entries.Given.{Over}
 use Rattle.odb_transdb.proofs.transdb.Transdb.entries.Goals as goal
 use Rattle.odb_transdb.proofs.transdb.Transdb.entries.Goals.{After-add_sides}
@@ -25,21 +29,44 @@ module _ (g : Over) (c : After-add_sides g) where
       subst (λ (d : Db). IfSome o (λ f. IsReadOf (λ all _. c.add_sides.new.entries.items ≡ drop (c.args.from - first_held d.header) all) (sides_read d.header f.bytes) c.add_sides.result))
       c.self.view_is c.add_sides.ensures.told
 
+  -- the header that the value has
+  lawful : IsTrue (is_header c.args.self.now.header)
+  lawful = subst (λ (d : Db). IsTrue (is_header d.header)) c.self.view_is c.self.invariant.lawful
+
+pub add_sides-requires-clause-active : goal.add_sides-requires-clause-active
+add_sides-requires-clause-active g c =
+    let w = g.S.Outside.world c.args.store.now in
+    let stands = c.requires.stands in
+    since_log (the_view c.self.inside) stands.0 (file_of 0 w) (subst (λ (d : Db). StandsSince d stands.0 (file_of 0 w)) (sym c.self.view_is) stands.1)
+
 pub returns-in-Ok-clause-entries : goal.returns-in-Ok-clause-entries
-returns-in-Ok-clause-entries g c =
+returns-in-Ok-clause-entries g c = λ stands.
     let a = (goal.at.returns-in-Ok-clause-entries g c).After-add_sides in
     let db = c.args.self.now in
     subst (λ (l : List Entry). IfSome (o g a) (λ f. l ≡ drop (c.args.from - first_held db.header) (entries_in (Some f)))) (sym c.new.ensures)
-    (given db c.args.from (Ok c.add_sides.new.entries.items) (o g a) c.requires.stands (g.met.S.Store.reads_image c.args.store.now 0) (subst (Told g a) c.in-Ok.is (told g a)))
+    (given db c.args.from (Ok c.add_sides.new.entries.items) (o g a) stands (g.met.S.Store.reads_image c.args.store.now 0) (subst (Told g a) c.in-Ok.is (told g a)))
+
+pub returns-in-Ok-clause-last : goal.returns-in-Ok-clause-last
+returns-in-Ok-clause-last g c = λ all since.
+    let a = (goal.at.returns-in-Ok-clause-last g c).After-add_sides in
+    let db = c.args.self.now in
+    subst (λ (l : List Entry). IfSome (o g a) (λ f. AreLast c.args.from db.active.next all l)) (sym c.new.ensures)
+    (given_last db all (lawful g a) c.args.from c.requires.from (Ok c.add_sides.new.entries.items) (o g a) since (g.met.S.Store.reads_image c.args.store.now 0) (subst (Told g a) c.in-Ok.is (told g a)))
 
 pub returns-in-Err-Damaged-clause-entries : goal.returns-in-Err-Damaged-clause-entries
-returns-in-Err-Damaged-clause-entries g c =
+returns-in-Err-Damaged-clause-entries g c = λ stands.
     let a = (goal.at.returns-in-Err-Damaged-clause-entries g c).After-add_sides in
-    never_damaged c.args.self.now c.in-Err-Damaged.field-0-0 _ (o g a) c.requires.stands (g.met.S.Store.reads_image c.args.store.now 0)
+    never_damaged c.args.self.now c.in-Err-Damaged.field-0-0 _ (o g a) stands (g.met.S.Store.reads_image c.args.store.now 0)
+    (subst (Told g a) (c.in-Err-Damaged.is ∙ ap Err c.in-Err-Damaged.field-0-is) (told g a))
+
+pub returns-in-Err-Damaged-clause-last : goal.returns-in-Err-Damaged-clause-last
+returns-in-Err-Damaged-clause-last g c = λ all since.
+    let a = (goal.at.returns-in-Err-Damaged-clause-last g c).After-add_sides in
+    never_broken c.args.self.now all (lawful g a) c.in-Err-Damaged.field-0-0 _ (o g a) since (g.met.S.Store.reads_image c.args.store.now 0)
     (subst (Told g a) (c.in-Err-Damaged.is ∙ ap Err c.in-Err-Damaged.field-0-is) (told g a))
 
 pub returns-in-Err-Damaged-clause-whole : goal.returns-in-Err-Damaged-clause-whole
 returns-in-Err-Damaged-clause-whole g c =
     let a = (goal.at.returns-in-Err-Damaged-clause-whole g c).After-add_sides in
-    never_damaged c.args.self.now c.in-Err-Damaged.field-0-0 _ (o g a) c.requires.stands (g.met.S.Store.reads_image c.args.store.now 0)
+    never_broken c.args.self.now c.requires.stands.0 (lawful g a) c.in-Err-Damaged.field-0-0 _ (o g a) c.requires.stands.1 (g.met.S.Store.reads_image c.args.store.now 0)
     (subst (Told g a) (c.in-Err-Damaged.is ∙ ap Err c.in-Err-Damaged.field-0-is) (told g a))

@@ -48,6 +48,7 @@ open_sides-requires g c =
         value = is.image;
         file = c.in_ok-pair.ensures.pair.0;
         settled = c.in_ok-pair.ensures.pair.1;
+        tried = c.in_ok-pair.ensures.tried;
         kept = is_kept o now disk;
         stands = c.in_ok-pair.ensures.stands;
         found = found_kept c.in_ok-pair.pair.value o now disk c.in_ok-pair.ensures.found;

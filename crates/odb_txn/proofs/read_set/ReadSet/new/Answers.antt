@@ -1,6 +1,7 @@
 use Rattle.std.proofs.Common.{List, length, sym, ap, subst, arith}
 use Rattle.odb_model.specs.declared.outcome.Read.{Read}
-use Rattle.odb_txn.specs.ReadSet.{AreOrdered, oldest_number}
+use Rattle.odb_model.specs.Window.{oldest_number}
+use Rattle.odb_txn.specs.ReadSet.{AreOrdered}
 use Rattle.odb_txn.proofs.Keeping.{AreOrdered-none}
 use Rattle.odb_txn.proofs.read_set.ReadSet.new.Goals as goal
 

@@ -1,6 +1,6 @@
 use Rattle.std.proofs.Common.{sym, ap, ◌∙◌, arith}
 use Rattle.odb_model.specs.declared.outcome.Read.{Read}
-use Rattle.odb_txn.specs.ReadSet.{least_with, oldest_number}
+use Rattle.odb_model.specs.Window.{least_with, oldest_number}
 use Rattle.odb_txn.proofs.Alike.{oldest-keep}
 use Rattle.odb_txn.proofs.read_set.ReadSet.put.Goals as goal
 

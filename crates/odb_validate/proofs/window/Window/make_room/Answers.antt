@@ -1,5 +1,6 @@
 use Rattle.std.proofs.Common.{◌<◌, ap, subst, ◌∙◌}
-use Rattle.odb_validate.specs.Window.{Windowed, start_within, forget}
+use Rattle.odb_model.specs.Window.{start_within}
+use Rattle.odb_validate.specs.Window.{Windowed, forget}
 use Rattle.odb_validate.proofs.Steps.{forget-more}
 use Rattle.odb_validate.proofs.window.Window.make_room.Goals as goal
 

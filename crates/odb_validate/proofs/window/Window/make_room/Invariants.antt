@@ -1,5 +1,6 @@
 use Rattle.std.proofs.Common.{◌≡◌, length}
-use Rattle.odb_validate.specs.Window.{start_within, forget}
+use Rattle.odb_model.specs.Window.{start_within}
+use Rattle.odb_validate.specs.Window.{forget}
 use Rattle.odb_validate.proofs.window.Window.make_room.Given as goal
 
 abbrev pub invariant-loop-self : goal.invariant-loop-self

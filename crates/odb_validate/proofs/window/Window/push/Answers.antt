@@ -1,5 +1,6 @@
 use Rattle.std.proofs.Common.{◌-◌, ◌≤◌, length, ap, sym, ◌∙◌, arith}
-use Rattle.odb_validate.specs.Window.{Windowed, write_count, start_within, window_writes, last_number, forget, put_last}
+use Rattle.odb_model.specs.Window.{write_count, start_within, window_writes}
+use Rattle.odb_validate.specs.Window.{Windowed, last_number, forget, put_last}
 use Rattle.odb_validate.proofs.Suffixes.{start_within-fits}
 use Rattle.odb_validate.proofs.Steps.{last-forget, last-push, push-room, push-past}
 use Rattle.odb_validate.proofs.window.Window.push.Goals as goal

@@ -1,6 +1,7 @@
 use Rattle.std.proofs.Common.{◌+◌, List, [], ◌∷◌, ◌++◌, length, ap, arith}
 use Rattle.odb_model.specs.declared.entry.Entry.{Entry}
-use Rattle.odb_validate.specs.Window.{Windowed, write_count, last_number, IsKept}
+use Rattle.odb_model.specs.Window.{write_count}
+use Rattle.odb_validate.specs.Window.{Windowed, last_number, IsKept}
 use Rattle.odb_validate.proofs.Kept.{IsKept-push}
 use Rattle.odb_validate.proofs.window.Window.put_last.Goals as goal
 

@@ -33,11 +33,11 @@ abbrev token_val : Val
 token_val = vstruct (vcons (vstruct vnil) vnil)
 
 pub of_spec : {M : Type 1} → statement M
-of_spec 𝓤 𝓛 𝓜 𝓡 wired Y L g d _ =
-    let H = 𝓛.H in let 𝓣 = tables 𝓤 H 𝓜 𝓡 𝓡.env in let R : RattleType = param 0 Y in let En = ended Y g d in
-    let inst = bounded (a_type ∷ []) (Y, tt) (dcons d dnil) in let fn = inst_fn inst code.function in let c = clauses Y g d 𝓛 𝓜.mem 𝓡.returns in
+of_spec 𝓤 𝓛 𝓜 𝓡 wired Y X L K g d h e f _ _ _ =
+    let H = 𝓛.H in let 𝓣 = tables 𝓤 H 𝓜 𝓡 𝓡.env in let R : RattleType = param 0 Y in let En = ended Y X g d h e f in
+    let inst = bounded (a_type ∷ a_type ∷ []) (Y, (X, tt)) (dcons d (dcons e (dcons f dnil))) in let fn = inst_fn inst code.function in let c = clauses Y X g d h e f 𝓛 𝓜.mem 𝓡.returns in
     let arg = RefOf (0 ∷ []) tt (plain (λ _. R)) (λ _. tt) in let hs : Stays En.signature.params En.kept = (stay_dropped arg yes, tt) in
-    proved 𝓛 En hs c 𝓜 𝓡 (Goes-dropped 𝓛 2 arg yes (λ κs x f. refl), tt) (#self inst) fn (code.unfolded 𝓤 H 𝓜 𝓡 wired (Y, tt) d)
+    proved 𝓛 En hs c 𝓜 𝓡 (Goes-dropped 𝓛 3 arg yes (λ κs x f. refl), tt) (#self inst) fn (code.unfolded 𝓤 H 𝓜 𝓡 wired (Y, (X, tt)) d e f)
     (λ κs. (shr_vals, tt)) (λ κs. (shr_Tells (named 0) κs.0 R, tt)) (λ κs qs bounds a gh are.
     let p : Val = vptr a.0.ref_ptr.0 a.0.ref_ptr.1 in let s : State = g.state a.0.now in let r : rows.the_row.Denot = record { marker = record {}; state = s } in let F : Fml = rows.the_row.own_val r (token_val ∷ []) in
     let y : (walk_of 𝓛 En hs c).Ghost = ((κs, qs, bounds, a, (p ∷ [], tt)), gh) in let Post : Val → SProp 𝓤 = (walk_of 𝓛 En hs c).post y in

@@ -1,0 +1,10 @@
+use Rattle.std.proofs.Common.{sym, arith}
+use Rattle.std.specs.Prelude.{◌&&◌}
+use Rattle.std.proofs.lemmas.Option.{slice_get_within}
+use Rattle.odb_bank.specs.Closing.{is_open, supersedes}
+use Rattle.odb_bank.proofs.AnyOf.{any_none}
+use Rattle.odb_bank.proofs.closing.is_superseded.Goals as goal
+
+pub returns : goal.returns
+returns c = sym (any_none (λ by. is_open by.gate && supersedes by c.args.it.now) c.args.slots.now
+    (λ k x is. c.loop-by.invariant k x (omega (arith, slice_get_within c.args.slots.now k x is)) is))

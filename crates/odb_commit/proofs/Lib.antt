@@ -1,0 +1,5 @@
+pub mod Records
+pub mod Judging
+pub mod Following
+pub mod Sealed
+pub mod Prepared

@@ -1,0 +1,12 @@
+pub mod Made
+pub mod Ordered
+pub mod Kept
+pub mod Places
+pub mod Taking
+pub mod Typed
+pub mod Told
+pub mod Columns
+pub mod Appended
+pub mod Defined
+pub mod Steps
+pub mod Begun
