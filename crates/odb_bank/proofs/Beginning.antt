@@ -2,6 +2,7 @@
 use Rattle.std.proofs.Common.{◌≡◌, ◌⊎◌, inl, inr, ℕ, ◌+◌, ◌*◌, ◌<◌, ◌≤◌, List, ◌++◌, length, Option, Some, None, sym, ◌∙◌, ap, subst, refl, arith}
 use Rattle.std.specs.Prelude.{map, max, is_some}
 use Rattle.std.specs.List.{All}
+use Rattle.std.specs.List.Sorted.{IsPermutation}
 use Rattle.std.proofs.lemmas.Bool.{cases_lt}
 use Rattle.std.proofs.lemmas.List.{length-map}
 use Rattle.odb_device.specs.World.{File, World, file_of}
@@ -19,7 +20,7 @@ use Rattle.odb_bank.specs.declared.kept.Kept.{Kept}
 use Rattle.odb_bank.specs.declared.phase.Phase.TheVariants.{Idle}
 use Rattle.odb_bank.specs.Additions.{record_of}
 use Rattle.odb_bank.specs.Bank.{BankState, file_number, slot_limit, StandsFor, StandsByMark}
-use Rattle.odb_bank.specs.Begun.{AreConsecutive, IsNext, IsPlanned, IsReady, AreTaken, HasGrown, HasItsGate, IsFilled, IsStillIdle, with_kept, with_run, SameOpen, KeepsTold, ClosesTold}
+use Rattle.odb_bank.specs.Begun.{AreConsecutive, IsNext, IsPlanned, IsReady, AreTaken, HasGrown, HasRun, HasItsGate, IsFilled, IsStillIdle, with_kept, with_run, SameOpen, KeepsTold, ClosesTold}
 use Rattle.odb_bank.specs.Closing.{staying_of, ClosesJust, HasRoomFor}
 use Rattle.odb_bank.specs.Files.{StandsAt}
 use Rattle.odb_bank.specs.Filling.{AreKeptFor, AreOf}
@@ -202,23 +203,21 @@ module _ (b : BankState) (entries : List Entry) (p : Plan) (plan : IsPlanned b e
         inside = λ k x low. omega (arith, inside k x low, exact);
         items = plan.items;
         keeps = plan.keeps;
-        empty = plan.empty;
-        room = omega (arith, plan.room, ap length slots_then);
         reached = omega (arith, plan.reached, mark_then);
       }
 
-      pub filled : (e : BankState) → (limit ≡ 0) ⊎ ((n : ℕ) × IsOneOf p.run.items n × (1024 * limit ≤ n + 1024)) → e ≡ with_run d (d.slots ++ p.kept.items) p.run.items p.reached → All (HasItsGate e.run) e.slots → IsFilled entries p.reached b e
-      filled e last is gates = subst (IsFilled entries p.reached b) (sym is) (record {
+      pub filled : (e : BankState) → (limit ≡ 0) ⊎ ((n : ℕ) × IsOneOf p.run.items n × (1024 * limit ≤ n + 1024)) → HasRun d p.kept.items p.run.items p.reached e → All (HasItsGate e.run) e.slots → IsFilled entries p.reached b e
+      filled e last run gates = subst (IsFilled entries p.reached b) (sym run.is) (record {
         phase_is = refl;
         reached = refl;
         mark = mark_then;
         bank = bank_then;
         file = file_then;
-        gates = subst (λ (x : BankState). All (HasItsGate x.run) x.slots) is gates;
+        gates = subst (λ (x : BankState). All (HasItsGate x.run) x.slots) run.is gates;
         records = map record_of p.additions.items;
         latest = plan.latest;
         added = p.kept.items;
-        slots = ap (λ (l : List Kept). l ++ p.kept.items) slots_then;
+        slots = subst (λ (l : List Kept). IsPermutation (l ++ p.kept.items) e.slots) slots_then run.slots;
         keeps = subst (AreKeptFor p.run.items (map record_of p.additions.items) p.kept.items) (sym many) plan.keeps;
         free = subst (λ (n : ℕ). AreFree (map (λ (it : Kept). it.slot) (staying_of b)) n p.run.items) (sym many) plan.free;
         grown = go last (cases_lt (limit_of b.extents) limit);

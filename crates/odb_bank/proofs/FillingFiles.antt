@@ -2,6 +2,7 @@
 use Rattle.std.proofs.Common.{◌≡◌, ◌≢◌, inl, inr, ℕ, ◌+◌, ◌<◌, ◌≤◌, List, ◌++◌, length, get_or, Option, Some, None, sym, ◌∙◌, ap, subst, refl, arith}
 use Rattle.std.specs.Prelude.{slice_get, IfSome}
 use Rattle.std.specs.List.{All, AllPairs}
+use Rattle.std.specs.List.Sorted.{IsPermutation}
 use Rattle.std.proofs.lemmas.List.Elements.{All-append}
 use Rattle.std.proofs.lemmas.Option.{slice_get_within, get_or_from_slice_get, slice_get-get_or}
 use Rattle.odb_device.specs.World.{File, World, file_of}
@@ -39,6 +40,7 @@ use Rattle.odb_bank.proofs.Framing.{bodies_lie}
 use Rattle.odb_bank.proofs.GateFiles.{IsMarked, marked_image}
 use Rattle.odb_bank.proofs.KnownSlots.{known_bodies, known_filled}
 use Rattle.odb_bank.proofs.Numbers.{run_within}
+use Rattle.odb_bank.proofs.Permuted.{known_permuted, sound_permuted}
 use Rattle.odb_bank.proofs.Spelling.{in_grammar}
 use Rattle.odb_bank.proofs.Standing.{all_closing}
 use Rattle.odb_bank.proofs.Steps.{stands_same}
@@ -176,8 +178,8 @@ module _ (b : BankState) (file : ℕ) (sound : IsSound file b) (phase : b.phase 
       (λ k d within. inr ((λ one. unused k (get_or b.slots k d) (slice_get-get_or b.slots k d within) one.0 (slot_at (get_or b.slots k d).slot one)), gates k d within))
       (λ k d within. let there = added_in k d within in inl (added_one k d within, ap (λ (x : Kept). x.gate) there.2))
 
-  pub filled_sound : (slots : List Kept) (reached : ℕ) → slots ≡ b.slots ++ added → b.mark ≤ reached → IsSound file (with_run b slots run reached)
-  filled_sound slots reached same high = subst (λ (l : List Kept). IsSound file (with_run b l run reached)) (sym same) (record {
+  pub filled_sound : (slots : List Kept) (reached : ℕ) → IsPermutation (b.slots ++ added) slots → b.mark ≤ reached → IsSound file (with_run b slots run reached)
+  filled_sound slots reached same high = sound_permuted (with_run b (b.slots ++ added) run reached) file slots same (record {
     number = sound.number;
     most = sound.most;
     high = sound.high;
@@ -233,9 +235,9 @@ module _ (b : BankState) (file : ℕ) (sound : IsSound file b) (phase : b.phase 
       pub same_known : IsKnownIn b known g
       same_known = record { kept = are; images = torn_images }
 
-      pub filled_known : (slots : List Kept) (reached : ℕ) → slots ≡ b.slots ++ added → EachImage (HasItems items) (Some g) → IsKnownIn (with_run b slots run reached) (filled_by run records known) g
+      pub filled_known : (slots : List Kept) (reached : ℕ) → IsPermutation (b.slots ++ added) slots → EachImage (HasItems items) (Some g) → IsKnownIn (with_run b slots run reached) (filled_by run records known) g
       filled_known slots reached same done = record {
-        kept = subst (λ (l : List Kept). AreKnownBy l (filled_by run records known)) (sym same) (kept_filled run records items added assigned distinct b.slots known are unused empty);
+        kept = known_permuted (b.slots ++ added) slots (filled_by run records known) same (kept_filled run records items added assigned distinct b.slots known are unused empty);
         images = λ image at. let is = image_filled image (done image at) (torn_images image at) in record { extents = is.extents; slots = is.slots };
       }
 
@@ -288,7 +290,7 @@ module _ (b : BankState) (file : ℕ) (sound : IsSound file b) (phase : b.phase 
       }
 
       pub filled_standing : (entries : List Entry) → IsNumberedFrom (b.mark + 1) entries → AreOf h b.bank entries → AreLatest b.bank entries records
-          → (slots : List Kept) → slots ≡ b.slots ++ added → EachImage (HasItems items) (Some g) → IsStandingFor h (with_run b slots run (b.mark + length entries)) g
+          → (slots : List Kept) → IsPermutation (b.slots ++ added) slots → EachImage (HasItems items) (Some g) → IsStandingFor h (with_run b slots run (b.mark + length entries)) g
       filled_standing entries numbers of_h latest slots same done = let is = standing.is_known in let within = run_within h b.bank b.mark entries numbers of_h (omega (arith, standing.low, standing.within)) in record {
         known = filled_by run records standing.known;
         is_known = filled_known standing.known its f g end is.images torn slots (b.mark + length entries) same done;
@@ -309,12 +311,12 @@ module _ (b : BankState) (file : ℕ) (sound : IsSound file b) (phase : b.phase 
     fill_fails (Some f) None stands torn = tt
     fill_fails (Some f) (Some g) stands torn = let is = stands.1 in (stands.0, same_known stands.0 is.kept f g end is.images torn)
 
-    pub fill_stands : (slots : List Kept) (reached : ℕ) (o now : Option File) → slots ≡ b.slots ++ added → Stands b o → TornInFrom (BodiesOf (HasSlot items)) end o now → EachImage (HasItems items) now → Stands (with_run b slots run reached) now
+    pub fill_stands : (slots : List Kept) (reached : ℕ) (o now : Option File) → IsPermutation (b.slots ++ added) slots → Stands b o → TornInFrom (BodiesOf (HasSlot items)) end o now → EachImage (HasItems items) now → Stands (with_run b slots run reached) now
     fill_stands slots reached None now same stands torn done = subst (Stands (with_run b slots run reached)) (sym torn) tt
     fill_stands slots reached (Some f) None same stands torn done = tt
     fill_stands slots reached (Some f) (Some g) same stands torn done = let is = stands.1 in (filled_by run records stands.0, filled_known stands.0 is.kept f g end is.images torn slots reached same done)
 
-    pub fill_told : (slots : List Kept) (reached : ℕ) (o now : Option File) → slots ≡ b.slots ++ added → TornInFrom (BodiesOf (HasSlot items)) end o now → EachImage (HasItems items) now → KeepsTold b (with_run b slots run reached) o now
+    pub fill_told : (slots : List Kept) (reached : ℕ) (o now : Option File) → IsPermutation (b.slots ++ added) slots → TornInFrom (BodiesOf (HasSlot items)) end o now → EachImage (HasItems items) now → KeepsTold b (with_run b slots run reached) o now
     fill_told slots reached None now same torn done = tt
     fill_told slots reached (Some f) None same torn done = tt
     fill_told slots reached (Some f) (Some g) same torn done = λ known is. (
@@ -332,7 +334,7 @@ module _ (b : BankState) (file : ℕ) (sound : IsSound file b) (phase : b.phase 
     fill_history_fails marked h (Some f) (Some g) stands torn = same_standing h f stands marked g end torn
 
     pub fill_history : (marked : IsMarked b) (h : History) (entries : List Entry) → IsNumberedFrom (b.mark + 1) entries → AreOf h b.bank entries → AreLatest b.bank entries records
-        → (slots : List Kept) (o now : Option File) → slots ≡ b.slots ++ added → StandsFor h b o → TornInFrom (BodiesOf (HasSlot items)) end o now → EachImage (HasItems items) now
+        → (slots : List Kept) (o now : Option File) → IsPermutation (b.slots ++ added) slots → StandsFor h b o → TornInFrom (BodiesOf (HasSlot items)) end o now → EachImage (HasItems items) now
         → StandsFor h (with_run b slots run (b.mark + length entries)) now
     fill_history marked h entries numbers of_h latest slots None now same stands torn done = subst (StandsFor h (with_run b slots run (b.mark + length entries))) (sym torn) tt
     fill_history marked h entries numbers of_h latest slots (Some f) None same stands torn done = tt

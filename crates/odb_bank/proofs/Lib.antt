@@ -22,7 +22,6 @@ pub mod Choice
 pub mod Got
 pub mod GateTurn
 pub mod GateFiles
-pub mod Nearest
 pub mod MarkTurn
 pub mod Lasting
 pub mod AnyOf
@@ -39,3 +38,7 @@ pub mod FillingTurn
 pub mod FillingFiles
 pub mod RoomTurn
 pub mod Beginning
+pub mod InOrder
+pub mod Searches
+pub mod Permuted
+pub mod Reached

@@ -1,6 +1,6 @@
 -- What a turn is to do, and why none may begin.
-use Rattle.std.proofs.Common.{◌≡◌, ℕ, ◌+◌, ◌<◌, ◌≤◌, List, [], length, Err, Ok, ◌∙◌, ap, subst, arith}
-use Rattle.std.specs.Prelude.{map, vec_capacity}
+use Rattle.std.proofs.Common.{◌≡◌, ℕ, ◌+◌, ◌<◌, ◌≤◌, List, length, Err, Ok, ◌∙◌, ap, subst, arith}
+use Rattle.std.specs.Prelude.{map}
 use Rattle.std.proofs.lemmas.List.{length-map}
 use Rattle.odb_model.specs.declared.entry.Entry.{Entry}
 use Rattle.odb_bank.specs.declared.begin.Plan.{Plan}
@@ -26,8 +26,8 @@ module _ (b : BankState) (entries : List Entry) (n : ℕ) (reach : IsReachAnswer
       → AreFree staying (length p.additions.items) p.run.items
       → AreItemsFor p.run.items (map record_of p.additions.items) p.items.items (length p.additions.items)
       → AreKeptFor p.run.items (map record_of p.additions.items) p.kept.items (length p.additions.items)
-      → p.room.items ≡ [] → length staying + length p.additions.items ≤ vec_capacity p.room → IsPlanAnswer b entries (Ok p)
-  plan_made p reached closing latest fits free items kept empty room = (
+      → IsPlanAnswer b entries (Ok p)
+  plan_made p reached closing latest fits free items kept = (
     reach.0,
     reach.1,
     record {
@@ -37,8 +37,6 @@ module _ (b : BankState) (entries : List Entry) (n : ℕ) (reach : IsReachAnswer
       free = subst (λ (l : List ℕ). AreFree l (length p.additions.items) p.run.items) stays free;
       items = items;
       keeps = kept;
-      empty = empty;
-      room = omega (arith, room, as_many);
       reached = reached ∙ reach.2;
     },
   )

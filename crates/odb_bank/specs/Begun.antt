@@ -1,6 +1,7 @@
 -- What beginning a turn answers, and what it leaves.
-use Rattle.std.specs.Prelude.{◌≡◌, ◌≢◌, ◌⊎◌, ℕ, ◌+◌, ◌<◌, ◌≤◌, List, [], ◌∷◌, ◌++◌, length, map, Option, IfSome, Result, Ok, Err, vec_capacity}
+use Rattle.std.specs.Prelude.{◌≡◌, ◌≢◌, ◌⊎◌, ℕ, ◌+◌, ◌<◌, ◌≤◌, List, [], ◌∷◌, ◌++◌, length, map, Option, IfSome, Result, Ok, Err}
 use Rattle.std.specs.List.{All}
+use Rattle.std.specs.List.Sorted.{IsPermutation}
 use Rattle.odb_device.specs.World.{File}
 use Rattle.odb_extent.specs.Standing.{limit_of}
 use Rattle.odb_slots.specs.Sets.{IsOneOf}
@@ -48,8 +49,6 @@ pub record IsPlanned (b : BankState) (entries : List Entry) (p : Plan) : Type 0 
       (length p.additions.items)
   pub keeps : AreKeptFor p.run.items (map record_of p.additions.items) p.kept.items
       (length p.additions.items)
-  pub empty : p.room.items ≡ []
-  pub room : length (staying_of b) + length p.additions.items ≤ vec_capacity p.room
   pub reached : p.reached ≡ b.mark + length entries
 
 -- What `bodies` answers: each refusal by its cause, in their order. Want of memory may come where
@@ -87,8 +86,6 @@ pub record IsReady (b : BankState) (p : Plan) : Type 0 where
       (length p.additions.items)
   pub keeps : AreKeptFor p.run.items (map record_of p.additions.items) p.kept.items
       (length p.additions.items)
-  pub empty : p.room.items ≡ []
-  pub room : length b.slots + length p.additions.items ≤ vec_capacity p.room
   pub reached : b.mark ≤ p.reached
 
 -- the plan, or one of the refusals that call no store
@@ -127,6 +124,12 @@ with_run b slots run reached = record b {
   phase = Bodies;
 }
 
+-- so it is, with these records added
+pub record HasRun (old : BankState) (added : List Kept) (run : List ℕ) (reached : ℕ) (new : BankState)
+    : Type 0 where
+  pub slots : IsPermutation (old.slots ++ added) new.slots
+  pub is : new ≡ with_run old new.slots run reached
+
 -- the entries are of the history, behind the mark, and the plan is for them
 pub record AreTaken (h : History) (b : BankState) (entries : List Entry) (p : Plan) : Type 0 where
   pub numbers : IsNumberedFrom (b.mark + 1) entries
@@ -152,7 +155,7 @@ pub record IsFilled (entries : List Entry) (n : ℕ) (old new : BankState) : Typ
   pub records : List Record
   pub latest : AreLatest old.bank entries records
   pub added : List Kept
-  pub slots : new.slots ≡ staying_of old ++ added
+  pub slots : IsPermutation (staying_of old ++ added) new.slots
   pub keeps : AreKeptFor new.run records added (length records)
   pub free : AreFree (map (λ it. it.slot) (staying_of old)) (length records) new.run
   pub grown : (limit_of new.extents ≡ limit_of old.extents)

@@ -46,39 +46,3 @@ pub record HasRowAt (slot : ℕ) (row : List Value) (bytes : List ℕ) : Type 0 
   pub its : Record
   pub spells : spelled record_of_slot slot bytes ≡ Some its
   pub has : its.row ≡ Some row
-
--- whether the key has a row: as what is kept of its record says
-abbrev pub ShowsRow : Bool → Key → List Kept → Option ℕ → Type 0
-ShowsRow has key slots None = IsBest key slots (length slots) None × (has ≡ false)
-ShowsRow has key slots (Some place) =
-    (it : Kept) × IsBestAt key slots (length slots) place it × (has ≡ it.has_row)
-
-abbrev pub TellsRow : Bool → Key → List Kept → Type 0
-TellsRow has key slots = (found : Option ℕ) × ShowsRow has key slots found
-
--- Whether what is kept of a slot is open on the disk and has a key of the range, behind the one
--- before, that has a row
-abbrev pub IsInReach : Bool → List Kept → Range → Option (List Value) → Kept → Type 0
-IsInReach true slots range after it = (it.gate ≡ Open)
-    × IsTrue (in_range range it.at.table it.at.key)
-    × IsAfter after it.at.key × TellsRow true it.at slots
-IsInReach false slots range after it = (it.gate ≢ Open)
-    ⊎ ((in_range range it.at.table it.at.key ≡ false)
-    ⊎ ((IsAfter after it.at.key → ⊥) ⊎ TellsRow false it.at slots))
-
--- of the first n, what is kept at this place is in reach, and none that is has a lesser key
-pub record IsNearestAt (slots : List Kept) (range : Range) (after : Option (List Value))
-    (n place : ℕ) (it : Kept) : Type 0 where
-  pub below : place < n
-  pub is_it : slice_get slots place ≡ Some it
-  pub reached : IsInReach true slots range after it
-  pub least : (k : ℕ) (other : Kept) → k < n → slice_get slots k ≡ Some other
-      → IsInReach false slots range after other
-      ⊎ (is_gt (values_cmp it.at.key other.at.key) ≡ false)
-
--- such a place; or none of them is in reach
-abbrev pub IsNearest : List Kept → Range → Option (List Value) → ℕ → Option ℕ → Type 0
-IsNearest slots range after n None = (k : ℕ) (it : Kept) → k < n → slice_get slots k ≡ Some it
-    → IsInReach false slots range after it
-IsNearest slots range after n (Some place) =
-    (it : Kept) × IsNearestAt slots range after n place it

@@ -1,5 +1,5 @@
 -- What the steps of an opening find.
-use Rattle.std.specs.Prelude.{◌≡◌, ◌⊎◌, ℕ, ◌*◌, ◌<◌, ◌≤◌, true, false, is_some, List, length, slice_get, Option, Some, None, Result, Ok, Err}
+use Rattle.std.specs.Prelude.{◌≡◌, ◌≢◌, ◌⊎◌, ℕ, ◌*◌, ◌<◌, ◌≤◌, true, false, is_some, List, length, slice_get, Option, Some, None, Result, Ok, Err}
 use Rattle.std.specs.List.{All, AllPairs}
 use Rattle.odb_extent.specs.Opened.{content_end}
 use Rattle.odb_slots.specs.Slots.{slot_place}
@@ -101,6 +101,12 @@ IsDamageBefore number n (Err Limit) bytes = ⊥
 pub record AreKeptInside (limit : ℕ) (slots : List Kept) : Type 0 where
   pub inside : All (λ it. it.slot < limit) slots
   pub ascending : AllPairs (λ a c. a.slot < c.slot) slots
+  pub opened : All (λ it. it.gate ≡ Open) slots
+
+-- of whatever file: slots inside the limit, each once, with open gates
+pub record AreKeptApart (limit : ℕ) (slots : List Kept) : Type 0 where
+  pub inside : All (λ it. it.slot < limit) slots
+  pub apart : AllPairs (λ a c. a.slot ≢ c.slot) slots
   pub opened : All (λ it. it.gate ≡ Open) slots
 
 -- the slots of a file are in order, and this is kept of them

@@ -16,7 +16,10 @@ pub mod Reading
 pub mod Answers
 pub mod Finding
 pub mod Gates
+pub mod Order
+pub mod Tree
 pub mod Choosing
+pub mod Best
 pub mod Refusals
 pub mod Latest
 pub mod LeastAbove

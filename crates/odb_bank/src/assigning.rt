@@ -7,6 +7,7 @@ ghost use Rattle.odb_bank.specs.Additions.{record_of, IsNarrow};
 ghost use Rattle.odb_bank.specs.Filling.{kept_for, AreItemsFor, AreKeptFor};
 
 use crate::latest::Addition;
+use crate::tree::Placed;
 use crate::{Gate, Kept};
 use odb_codec::{encode_key, encode_row};
 use odb_model::TableKey;
@@ -75,19 +76,21 @@ fn row_of(alloc: Global, addition: &Addition) -> Result<Bytes, AllocError>
     }
 }
 
-/// What memory keeps of these records behind closed gates. The error is want of memory.
+/// What memory keeps of these records behind closed gates, with the memory that it takes. The error
+/// is want of memory.
 pub(crate) fn kept_of(
     alloc: Global,
     free: &[u32],
     additions: &[Addition],
-) -> Result<Vec<Kept>, AllocError>
+) -> Result<Vec<Placed>, AllocError>
     requires { length free.now ≡ length additions.now }
     ensures { IfOk result (λ kept. AreKeptFor free.now (map record_of additions.now) kept.items
         (length additions.now)) }
 {
     let mut kept = Vec::with_capacity(alloc, additions.len())?;
     for i in 0..additions.len() {
-        kept.push(keeping(alloc, free[i], &additions[i])?)?;
+        let it = keeping(alloc, free[i], &additions[i])?;
+        kept.push(Placed::new(alloc, it)?)?;
     }
     Ok(kept)
 }

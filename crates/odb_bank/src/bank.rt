@@ -1,7 +1,8 @@
 //! A databank file in memory.
 ghost use Rattle.std.specs.Prelude.{◌≡◌};
 
-use crate::{Kept, Phase};
+use crate::Phase;
+use crate::tree::Tree;
 use odb_extent::Extents;
 use std::marker::Model;
 
@@ -28,8 +29,8 @@ pub struct Bank {
     pub(crate) phase: Phase,
     /// The slots of the run.
     pub(crate) run: Vec<u32>,
-    /// What is kept of each slot that isn't free, in no order.
-    pub(crate) slots: Vec<Kept>,
+    /// What is kept of each slot that isn't free, in the order of the keys.
+    pub(crate) slots: Tree,
 }
 
 impl Model for Bank {
@@ -44,7 +45,7 @@ impl Model for Bank {
       reached = b.reached;
       phase = b.phase;
       run = b.run.items;
-      slots = b.slots.items;
+      slots = b.slots;
     } };
 
     ghost invariant = { λ b. IsSound b.file (view b) };

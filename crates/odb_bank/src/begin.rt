@@ -1,6 +1,7 @@
 //! The beginning of a turn: a run of entries behind closed gates.
-ghost use Rattle.std.specs.Prelude.{◌≡◌, ◌≢◌, ◌⊎◌, ◌*◌, ◌+◌, ◌≤◌, ◌++◌, ◌<◌, ℕ, max, List as ListOf, length, map, not, vec_len, Err, IfErr, IfOk, OnOk, OnErr, vec_capacity};
+ghost use Rattle.std.specs.Prelude.{◌≡◌, ◌≢◌, ◌⊎◌, ◌*◌, ◌+◌, ◌≤◌, ◌++◌, ◌<◌, ℕ, max, List as ListOf, length, map, not, Err, IfErr, IfOk, OnOk, OnErr};
 ghost use Rattle.std.specs.List.{All, AllPairs, filter};
+ghost use Rattle.std.specs.List.Sorted.{IsPermutation};
 ghost use Rattle.odb_device.specs.World.{file_of};
 ghost use Rattle.odb_device.specs.Images.{EachImage};
 ghost use Rattle.odb_device.specs.Calls.{FileCountRose, HasCause};
@@ -19,8 +20,8 @@ use crate::closing::{closing_slots, staying_slots};
 use crate::growing::grow_to;
 use crate::latest::{Addition, latest};
 use crate::room::{SLOTS, free_slots};
-use crate::turn::set_gates;
-use crate::{Bank, BankError, Gate, Kept, Phase};
+use crate::tree::{Placed, Tree};
+use crate::{Bank, BankError, Gate, Phase};
 use odb_device::Store;
 use odb_model::Entry;
 use odb_slots::{SlotItem, close_stale, put_bodies};
@@ -38,10 +39,8 @@ struct Plan {
     run: Vec<u32>,
     /// Their items.
     items: Vec<SlotItem>,
-    /// What memory keeps of them.
-    kept: Vec<Kept>,
-    /// Room for all that memory keeps afterwards.
-    room: Vec<Kept>,
+    /// What memory keeps of them, with the memory that it takes.
+    kept: Vec<Placed>,
     /// The number that the turn reaches.
     reached: u64,
 }
@@ -49,7 +48,7 @@ struct Plan {
 impl Bank {
     ghost use Rattle.odb_bank.specs.Bank.{Stands, StandsFor, file_number};
     ghost use Rattle.odb_bank.specs.Answers.{IsQuietly};
-    ghost use Rattle.odb_bank.specs.Begun.{AreConsecutive, IsReachAnswer, IsPlanAnswer, IsBodiesAnswer, IsReady, AreTaken, with_kept, HasGrown, with_run, HasItsGate, IsFilled, IsStillIdle, ClosesTold, KeepsTold};
+    ghost use Rattle.odb_bank.specs.Begun.{AreConsecutive, IsReachAnswer, IsPlanAnswer, IsBodiesAnswer, IsReady, AreTaken, with_kept, HasGrown, HasRun, HasItsGate, IsFilled, IsStillIdle, ClosesTold, KeepsTold};
     ghost use Rattle.odb_bank.specs.Filling.{AreOf};
 
     /// Closes the gates of the slots that are stale, and puts them on the disk: one write a slot,
@@ -81,7 +80,7 @@ impl Bank {
     {
         // Asked for what its contract says: which limits and fields each image holds.
         let _limit = self.extents.limit();
-        set_gates(&mut self.slots, closing, Gate::Doubtful);
+        self.slots.note(closing, Gate::Doubtful);
         match close_stale(store, self.file, closing) {
             Ok(()) => {
                 keep_known(&mut self.slots);
@@ -142,8 +141,8 @@ impl Bank {
             → AreTaken h self.old entries plan
             → StandsFor h self.new (file_of (file_number self.old) (S.world store.new)) }
         ensures broken { OnErr result (self.new ≡ self.old) }
-        ensures filled { OnOk result (self.new ≡ with_run self.old
-            (self.old.slots ++ plan.kept.items) plan.run.items plan.reached) }
+        ensures filled { OnOk result
+            (HasRun self.old plan.kept.items plan.run.items plan.reached self.new) }
         ensures closed { OnOk result (All (HasItsGate self.new.run) self.new.slots) }
         ensures told { OnOk result (KeepsTold self.old self.new
             (file_of (file_number self.old) (S.world store.old))
@@ -156,9 +155,7 @@ impl Bank {
         let _limit = self.extents.limit();
         match put_bodies(store, self.file, plan.items.as_slice()) {
             Ok(()) => {
-                let slots = mem::replace(&mut self.slots, plan.room);
-                push_all(&mut self.slots, slots);
-                push_all(&mut self.slots, plan.kept);
+                put_all(&mut self.slots, plan.kept);
                 self.run = plan.run;
                 self.reached = plan.reached;
                 self.phase = Phase::Bodies;
@@ -262,45 +259,32 @@ impl Bank {
         let run = free_slots(alloc, &staying, additions.len())?;
         let items = items_of(alloc, &run, &additions)?;
         let kept = kept_of(alloc, &run, &additions)?;
-        let room = Vec::with_capacity(alloc, staying.len() + additions.len())?;
         Ok(Plan {
             closing,
             additions,
             run,
             items,
             kept,
-            room,
             reached,
         })
     }
 }
 
 /// Keeps what isn't in doubt.
-fn keep_known(slots: &mut Vec<Kept>)
-    ensures { slots.new.items ≡ filter (λ it. not (is_doubtful it.gate)) slots.old.items }
+fn keep_known(slots: &mut Tree)
+    ensures { slots.new ≡ filter (λ it. not (is_doubtful it.gate)) slots.old }
 {
-    slots.retain(|it| is_known(it));
+    let all = mem::replace(slots, Tree::new());
+    *slots = all.known();
 }
 
-/// Whether a slot isn't in doubt.
-fn is_known(it: &Kept) -> bool
-    ensures { result ≡ not (is_doubtful it.now.gate) }
+/// Puts records in their places, in the time of a search for each. It takes no memory.
+fn put_all(slots: &mut Tree, mut kept: Vec<Placed>)
+    ensures { IsPermutation (slots.old ++ kept.items) slots.new }
 {
-    match it.gate {
-        Gate::Doubtful => false,
-        Gate::Open => true,
-        Gate::Shut => true,
+    while let Some(placed) = kept.pop() {
+        slots.put(placed);
     }
-}
-
-/// Moves all of these behind what there is, into room that is reserved.
-fn push_all(room: &mut Vec<Kept>, mut items: Vec<Kept>)
-    requires { vec_len room.old + length items.items ≤ vec_capacity room.old }
-    ensures items { room.new.items ≡ room.old.items ++ items.items }
-    ensures capacity { vec_capacity room.old ≤ vec_capacity room.new }
-{
-    // With the room reserved it takes no memory.
-    let _moved = room.append(&mut items);
 }
 
 /// How many extents have these slots, which ascend.

@@ -15,12 +15,12 @@ pub enum Gate {
 /// What memory keeps of a slot that isn't free: all of its record but the row.
 #[derive(Debug, Drop)]
 pub struct Kept {
-    /// The slot, from 0.
-    pub slot: u32,
     /// The table and the key of the record.
     pub at: TableKey,
     /// The number of the entry that wrote it.
     pub stamp: u64,
+    /// The slot, from 0.
+    pub slot: u32,
     /// Whether it has a row; without one it is a deletion mark.
     pub has_row: bool,
     /// What is known of the slot's gate.

@@ -23,6 +23,7 @@ mod opens;
 mod phase;
 mod room;
 mod rows;
+mod tree;
 mod turn;
 mod walking;
 

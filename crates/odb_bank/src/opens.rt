@@ -1,6 +1,7 @@
 //! Opening a databank file, with each check that its bytes are in order.
 ghost use Rattle.std.specs.Prelude.{◌≡◌, ◌≢◌, ℕ, ◌+◌, ◌*◌, ◌<◌, ◌≤◌, is_some, length, None, Err, IfOk, IfSome};
 ghost use Rattle.std.specs.List.{All};
+ghost use Rattle.std.specs.List.Sorted.{IsPermutation};
 ghost use Rattle.odb_device.specs.World.{file_of};
 ghost use Rattle.odb_device.specs.Calls.{FileCountRose, Keeps};
 ghost use Rattle.odb_device.specs.Moments.{WritesWithin};
@@ -11,10 +12,11 @@ ghost use Rattle.odb_bank.specs.History.{History};
 ghost use Rattle.odb_bank.specs.Files.{StandsAtMark};
 ghost use Rattle.odb_bank.specs.Fields.{bank_image};
 ghost use Rattle.odb_bank.specs.Spelled.{row_in as row_of_item};
-ghost use Rattle.odb_bank.specs.Finding.{IsItemAnswer, AreItemsKept, IsSlotChecked, IsDamageBefore, IsSlotsAnswer, AreKeptInside, IsSlotsRefusal};
+ghost use Rattle.odb_bank.specs.Finding.{IsItemAnswer, AreItemsKept, IsSlotChecked, IsDamageBefore, IsSlotsAnswer, AreKeptInside, AreKeptApart, IsSlotsRefusal};
 
 use crate::decoding::{key_in, row_in};
 use crate::making::MOST;
+use crate::tree::{Placed, Tree};
 use crate::{Bank, BankError, BankFields, Gate, Kept, Phase};
 use odb_device::Store;
 use odb_extent::{ExtentError, Extents};
@@ -68,7 +70,7 @@ impl Bank {
         let Some(mark) = mark_in(&extents.fields(), bank, number) else {
             return Err(BankError::Damaged { at: 0 });
         };
-        let slots = slots_in(alloc, store, file, extents.limit(), number)?;
+        let slots = tree_in(alloc, store, file, extents.limit(), number)?;
         Ok(Bank {
             file,
             extents,
@@ -77,7 +79,7 @@ impl Bank {
             reached: mark,
             phase: Phase::Idle,
             run: Vec::new(alloc),
-            slots: slots.into_vec(),
+            slots,
         })
     }
 }
@@ -234,4 +236,35 @@ fn slots_in<S: Store>(
         }
         Err(refused) => Err(refused.into()),
     }
+}
+
+/// The same as a tree.
+fn tree_in<S: Store>(
+    alloc: Global,
+    store: &mut S,
+    file: u32,
+    limit: u32,
+    number: u64,
+) -> Result<Tree, BankError>
+    requires limit { limit ≤ 4096 }
+    ensures run { OnlyReads file (S.world store.old) (S.world store.new) }
+    ensures answer { IfTold file (S.world store.old) (IsSlotsAnswer number limit result) }
+    ensures sound { IfOk result (AreKeptApart (1024 * limit)) }
+    ensures refusal { IsSlotsRefusal result }
+    ensures fault { result ≡ Err BankError.Fault
+        → FileCountRose file (S.world store.old) (S.world store.new) }
+{
+    let slots = slots_in(alloc, store, file, limit, number)?;
+    Ok(tree_of(alloc, slots.into_vec())?)
+}
+
+/// The tree of these records, in the time of a search for each. The error is want of memory.
+fn tree_of(alloc: Global, mut slots: Vec<Kept>) -> Result<Tree, AllocError>
+    ensures { IfOk result (IsPermutation slots.items) }
+{
+    let mut tree = Tree::new();
+    while let Some(it) = slots.pop() {
+        tree.put(Placed::new(alloc, it)?);
+    }
+    Ok(tree)
 }

@@ -6,14 +6,17 @@ ghost use Rattle.odb_device.specs.Told.{IfTold, OnlyReads};
 ghost use Rattle.odb_slots.specs.Slots.{slot_place};
 ghost use Rattle.odb_values.specs.declared.value.Value.{Value};
 ghost use Rattle.odb_bank.specs.Known.{Known};
-ghost use Rattle.odb_bank.specs.Choosing.{IsFor, IsBest, is_better, HasRowAt};
+ghost use Rattle.odb_bank.specs.Choosing.{is_better, HasRowAt};
+ghost use Rattle.odb_bank.specs.Best.{is_for};
 ghost use Rattle.odb_bank.specs.Reading.{IsReadRefusal};
 
+use crate::closing::is_open;
 use crate::decoding::row_in;
-use crate::{Bank, BankError, Gate, Kept};
+use crate::{Bank, BankError, Kept};
 use odb_device::Store;
+use odb_rowsource::cmp_table_keys;
 use odb_slots::{SlotError, read_slot};
-use odb_values::{Key, Row, cmp_key};
+use odb_values::{Key, Row};
 use std::alloc::Global;
 use std::cmp::Ordering;
 
@@ -24,8 +27,8 @@ impl Bank {
     /// The row of a key; None where it has none. From a faulted `gates` to its Ok it may answer as
     /// before the run.
     ///
-    /// One pass over what memory keeps, and where the key has a row one read of 1,024 bytes, with
-    /// memory for the row. A slot that is no longer in order, as a file that is told never shows,
+    /// A search in what memory keeps, and where the key has a row one read of 1,024 bytes, with memory
+    /// for the row. A slot that is no longer in order, as a file that is told never shows,
     /// counts as closed: then there is no row. Fault: the read failed. NoMemory: there is none for
     /// the row.
     pub fn get<S: Store>(
@@ -44,10 +47,9 @@ impl Bank {
         ensures fault { result ≡ Err BankError.Fault
             → FileCountRose (file_number self.now) (S.world store.old) (S.world store.new) }
     {
-        let Some(place) = record_place(&self.slots, table, key) else {
+        let Some(kept) = self.slots.best(table, key, None) else {
             return Ok(None);
         };
-        let kept = &self.slots[place];
         if !kept.has_row {
             return Ok(None);
         }
@@ -56,63 +58,17 @@ impl Bank {
 }
 
 /// Whether this is kept of a slot that is open on the disk and has a record of the key.
-fn is_for(it: &Kept, table: u32, key: &Key) -> bool
-    ensures { IsTrue result ↔ IsFor (record { table = table; key = key.now }) it.now }
+pub(crate) fn is_for(it: &Kept, table: u32, key: &Key) -> bool
+    ensures { result ≡ is_for (record { table = table; key = key.now }) it.now }
 {
-    if it.gate != Gate::Open || it.at.table != table {
-        return false;
-    }
-    match cmp_key(&it.at.key, key) {
-        Ordering::Equal => true,
-        Ordering::Less => false,
-        Ordering::Greater => false,
-    }
+    is_open(it.gate) && cmp_table_keys(it.at.table, &it.at.key, table, key) == Ordering::Equal
 }
 
 /// Whether this has a greater stamp than the one so far, or the same and a lower slot.
-fn is_better(so_far: &Kept, it: &Kept) -> bool
+pub(crate) fn is_better(so_far: &Kept, it: &Kept) -> bool
     ensures { result ≡ is_better so_far.now it.now }
 {
     so_far.stamp < it.stamp || (so_far.stamp == it.stamp && it.slot < so_far.slot)
-}
-
-/// At which place the record of a key is kept: of those that are open on the disk the one of
-/// greatest stamp, of least slot among equal ones. One pass.
-pub(crate) fn record_place(slots: &[Kept], table: u32, key: &Key) -> Option<usize>
-    ensures { IsBest (record { table = table; key = key.now }) slots.now (length slots.now) result }
-{
-    let mut best: Option<usize> = None;
-    for i in 0..slots.len() {
-        best = better_place(slots, best, i, table, key);
-    }
-    best
-}
-
-/// The better one of a place so far and this one, where that is of the key.
-fn better_place(
-    slots: &[Kept],
-    best: Option<usize>,
-    i: usize,
-    table: u32,
-    key: &Key,
-) -> Option<usize>
-    requires inside { i < length slots.now }
-    requires best { IsBest (record { table = table; key = key.now }) slots.now i best }
-    ensures { IsBest (record { table = table; key = key.now }) slots.now (i + 1) result }
-{
-    if !is_for(&slots[i], table, key) {
-        return best;
-    }
-    match best {
-        None => Some(i),
-        Some(place) => {
-            if is_better(&slots[place], &slots[i]) {
-                Some(i)
-            } else {
-                Some(place)
-            }
-        }
-    }
 }
 
 /// The row of the record in a slot; None where it isn't open or not in order.

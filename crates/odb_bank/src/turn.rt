@@ -1,5 +1,5 @@
 //! The turns by which a databank file takes up entries.
-ghost use Rattle.std.specs.Prelude.{◌≡◌, ◌≢◌, ◌⊎◌, ℕ, map, Err, IfOk, OnOk, OnErr};
+ghost use Rattle.std.specs.Prelude.{◌≡◌, ◌≢◌, ◌⊎◌, ℕ, Err, IfOk, OnOk, OnErr};
 ghost use Rattle.odb_device.specs.World.{file_of};
 ghost use Rattle.odb_device.specs.Images.{EachImage};
 ghost use Rattle.odb_device.specs.Calls.{FileCountRose};
@@ -7,9 +7,9 @@ ghost use Rattle.odb_device.specs.Moments.{Runs, WritesWithin};
 ghost use Rattle.odb_slots.specs.Tearing.{TearsGates};
 ghost use Rattle.odb_bank.specs.History.{History};
 ghost use Rattle.odb_bank.specs.Files.{StandsAt};
-ghost use Rattle.odb_bank.specs.Gates.{with_gate, noted_as};
+ghost use Rattle.odb_bank.specs.Gates.{noted_as};
 
-use crate::{Bank, BankError, BankFields, Gate, Kept, Phase};
+use crate::{Bank, BankError, BankFields, Gate, Phase};
 use odb_device::Store;
 use odb_slots::open_gates;
 
@@ -48,10 +48,10 @@ impl Bank {
         }
         // Asked for what its contract says: which limits and fields each image holds.
         let _limit = self.extents.limit();
-        set_gates(&mut self.slots, &self.run, Gate::Doubtful);
+        self.slots.note(&self.run, Gate::Doubtful);
         match open_gates(store, self.file, self.run.as_slice()) {
             Ok(()) => {
-                set_gates(&mut self.slots, &self.run, Gate::Open);
+                self.slots.note(&self.run, Gate::Open);
                 self.phase = Phase::Gates;
                 Ok(())
             }
@@ -106,23 +106,5 @@ impl Bank {
             }
             Err(_) => Err(BankError::Fault),
         }
-    }
-}
-
-/// Notes this of the gates of these slots.
-pub(crate) fn set_gates(slots: &mut [Kept], run: &[u32], gate: Gate)
-    ensures { slots.new ≡ map (with_gate run.now gate) slots.old }
-{
-    for it in slots.iter_mut() {
-        note_gate(it, run, gate);
-    }
-}
-
-/// Notes this of the gate of a slot that is one of these.
-fn note_gate(it: &mut Kept, run: &[u32], gate: Gate)
-    ensures { it.new ≡ with_gate run.now gate it.old }
-{
-    if run.contains(&it.slot) {
-        it.gate = gate;
     }
 }

@@ -39,6 +39,3 @@ pub fn say_all<C: Console>(console: &mut C, bytes: &[u8]) -> Result<(), Failed>
     }
     Ok(())
 }
-
-#[cfg(test)]
-mod tests;

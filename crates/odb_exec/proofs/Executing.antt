@@ -12,9 +12,21 @@ use Rattle.odb_model.specs.Dictionary.{table_of}
 use Rattle.odb_model.specs.Binding.{binding_refusal}
 use Rattle.odb_model.specs.Meaning.{Meaning, meaning, refused, refused_or, executed, on_table}
 use Rattle.odb_model.specs.Reads.{reads, reads_on, table_reads, unless_refused, dictionary_row}
+use Rattle.odb_plan.specs.declared.error.PlanError.{PlanError}
+use Rattle.odb_plan.specs.declared.error.PlanError.TheVariants.{NoColumn, KindMismatch, KeyColumn, ColumnCount, NoMemory}
+use Rattle.odb_plan.specs.Bound.{IsRefused}
 use Rattle.odb_exec.specs.declared.effect.Effect.{Effect}
 use Rattle.odb_exec.specs.Effect.{IsEffectOf}
 use Rattle.odb_exec.specs.Outcome.{IsOutcomeOf, IsOnRows}
+use Rattle.odb_exec.specs.Replies.{IsReplyTo}
+
+-- the reply that tells why a statement isn't bound is the refusal
+pub refused_as : (t : Table) (st : Statement) (error : PlanError) (reply : Reply) → IsReplyTo error reply → IsRefused t st error → binding_refusal t st ≡ Some reply
+refused_as t st NoColumn reply told refuses = refuses ∙ ap Some (sym told)
+refused_as t st KindMismatch reply told refuses = refuses ∙ ap Some (sym told)
+refused_as t st KeyColumn reply told refuses = refuses ∙ ap Some (sym told)
+refused_as t st ColumnCount reply told refuses = refuses ∙ ap Some (sym told)
+refused_as t st NoMemory reply told refuses = absurd told
 
 module _ (s : State) (written : List TableKey) (format : ℕ) where
   meant : (st : Statement) (name : List ℕ) → IsOnRows st name → meaning st s written format ≡ on_table (table_of s name) st s written format

@@ -19,7 +19,8 @@ use std::alloc::Global;
 ///
 /// A SELECT, UPDATE or DELETE looks its table up, binds its names once, and asks the source for each
 /// row of its range once; an INSERT looks each of its keys up. It takes memory for the reply, the
-/// ranges and at most 4,096 writes, and for the keys of an INSERT. Nothing has changed on an error.
+/// ranges and at most 4,096 writes, and for the keys of an INSERT of several tuples. Nothing has
+/// changed on an error.
 pub fn execute<R: RowSource>(
     rows: &mut R,
     alloc: Global,

@@ -5,14 +5,18 @@ ghost use Rattle.odb_device.specs.Counts.{Rose};
 use odb_device::Failed;
 use std::io;
 
-/// How often each part failed so far, up to the end of the type, and whether the end of the input
-/// was met.
+/// How often each part of a host failed so far, and whether the end of the input was met. Each count
+/// stands still at the end of its type.
 #[derive(Clone, Copy, Debug)]
-pub(crate) struct Counts {
-    pub(crate) file_faults: u64,
-    pub(crate) take_faults: u64,
-    pub(crate) say_faults: u64,
-    pub(crate) has_ended: bool,
+pub struct Counts {
+    /// Calls of the store that failed, on whichever file.
+    pub file_faults: u64,
+    /// Calls of `take` that failed.
+    pub take_faults: u64,
+    /// Calls of `say` that failed.
+    pub say_faults: u64,
+    /// Whether some `take` found the input at its end.
+    pub has_ended: bool,
 }
 
 /// What std answered. An error is counted as one more fault, where the type of the count has room

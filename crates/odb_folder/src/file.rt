@@ -22,7 +22,7 @@ const PIECE: usize = 4096;
 /// before the next one it writes again all that may be missing on the disk. What that sync then
 /// answers speaks of all the bytes that a read gives.
 #[derive(Drop)]
-pub(crate) struct SyncedFile<F> {
+pub struct SyncedFile<F> {
     file: F,
     // What may not be on the disk are the bytes from the one place to before the other.
     from: u64,
@@ -38,7 +38,7 @@ pub(crate) struct SyncedFile<F> {
 
 impl<F: AsRawFd + FileExt + OpenFile + Drop> SyncedFile<F> {
     /// A file that was just opened. Somebody else may have written all of it, and not synced it.
-    pub(crate) fn new(file: F) -> SyncedFile<F>
+    pub fn new(file: F) -> SyncedFile<F>
         ensures { (result.from ≡ 0) × (result.to ≡ 2 ^ 64 - 1) }
     {
         SyncedFile {
@@ -52,17 +52,17 @@ impl<F: AsRawFd + FileExt + OpenFile + Drop> SyncedFile<F> {
     }
 
     /// The open file itself.
-    pub(crate) fn open_file(&self) -> &F {
+    pub fn open_file(&self) -> &F {
         &self.file
     }
 
     /// The length in bytes.
-    pub(crate) fn length(&self) -> io::Result<u64> {
+    pub fn length(&self) -> io::Result<u64> {
         Ok(self.file.metadata()?.len())
     }
 
     /// Reads from the byte `at` on to the end of the file or of `out`, and answers how many bytes.
-    pub(crate) fn read_at(&self, at: u64, out: &mut [u8]) -> io::Result<usize>
+    pub fn read_at(&self, at: u64, out: &mut [u8]) -> io::Result<usize>
         ensures { IfOk result (λ n. n ≤ length out.new) }
     {
         let room = FARTHEST.saturating_sub(at).min(out.len() as u64) as usize;
@@ -72,7 +72,7 @@ impl<F: AsRawFd + FileExt + OpenFile + Drop> SyncedFile<F> {
 
     /// Writes all of the bytes from the byte `at` on. The system fills a gap before them with
     /// zeros. Where there are no bytes, the file is made as long as `at`.
-    pub(crate) fn write_at(&mut self, at: u64, bytes: &[u8]) -> io::Result<()>
+    pub fn write_at(&mut self, at: u64, bytes: &[u8]) -> io::Result<()>
         requires { at + length bytes.now ≤ 2 ^ 40 }
         ensures noted { (self.new.from ≤ at) × (at + length bytes.now ≤ self.new.to) }
         ensures grown { (self.new.from ≤ self.old.from) × (self.old.to ≤ self.new.to) }
@@ -94,7 +94,7 @@ impl<F: AsRawFd + FileExt + OpenFile + Drop> SyncedFile<F> {
     }
 
     /// Whether something was written since the last sync that succeeded, or the last sync failed.
-    pub(crate) fn needs_sync(&self) -> bool
+    pub fn needs_sync(&self) -> bool
         ensures { IsTrue result ↔ (IsTrue self.now.is_written ⊎ IsTrue self.now.is_suspect) }
     {
         self.is_written || self.is_suspect
@@ -102,7 +102,7 @@ impl<F: AsRawFd + FileExt + OpenFile + Drop> SyncedFile<F> {
 
     /// Puts the file on the disk, so that the disk has what a read gives. It is one call of the
     /// system, where no sync failed before.
-    pub(crate) fn sync(&mut self) -> io::Result<()>
+    pub fn sync(&mut self) -> io::Result<()>
         ensures suspect { IsTrue self.new.is_suspect ↔ IsErr result }
         ensures settled { OnOk result (¬ (IsTrue self.new.is_written)) }
         ensures from { OnErr result (self.new.from ≡ self.old.from) }
@@ -128,7 +128,7 @@ impl<F: AsRawFd + FileExt + OpenFile + Drop> SyncedFile<F> {
     ///
     /// Who wrote the file before may have had a sync that failed, and ended: then the system may
     /// keep bytes that the disk hasn't, and answer this sync with success.
-    pub(crate) fn settle(&mut self) -> io::Result<()>
+    pub fn settle(&mut self) -> io::Result<()>
         ensures { OnOk result (¬ (IsTrue self.new.is_suspect)) }
     {
         self.sync()?;
@@ -177,6 +177,3 @@ impl<F: FileExt> Read for Reader<'_, F> {
         Ok(n)
     }
 }
-
-#[cfg(test)]
-mod tests;

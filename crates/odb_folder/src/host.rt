@@ -81,6 +81,13 @@ impl<R: Files<File = File> + Input + Print + Drop> FolderHost<R> {
             counts,
         }
     }
+
+    /// What contracts see of it.
+    pub fn counts(&self) -> Counts
+        ensures { result ≡ self.now }
+    {
+        self.counts
+    }
 }
 
 impl<R: Files<File = File> + Input + Print + Drop> Outside for FolderHost<R> {
@@ -157,6 +164,3 @@ impl<R: Files<File = File> + Input + Print + Drop> Console for FolderHost<R> {
 }
 
 impl<R: Files<File = File> + Input + Print + Drop> Host for FolderHost<R> {}
-
-#[cfg(test)]
-mod tests;

@@ -14,6 +14,3 @@ pub use error::FrameError;
 pub use laws::{finds_first, reads_written};
 pub use reading::read_frame;
 pub use sending::{send_all, write_frame};
-
-#[cfg(test)]
-mod tests;

@@ -22,6 +22,3 @@ pub use error::TableError;
 pub use key_table::KeyTable;
 pub use pending::{Pending, Placed};
 pub use rows::Rows;
-
-#[cfg(test)]
-mod tests;

@@ -22,6 +22,3 @@ pub use host::MemHost;
 pub use link::MemLink;
 pub use mem_store::MemStore;
 pub use recorder::{Call, Recorded, Refused};
-
-#[cfg(test)]
-mod tests;

@@ -7,8 +7,10 @@ use Rattle.std.proofs.lemmas.List.Elements.{Contains-append_left, Contains-appen
 use Rattle.odb_model.specs.declared.reply.Head.{Head}
 use Rattle.odb_model.specs.declared.reply.Head.TheVariants.{Session, Control, Unknown}
 use Rattle.odb_model.specs.declared.reply.Reply.{Reply}
-use Rattle.odb_model.specs.declared.reply.Reply.TheVariants.{Okay, Rows, Done, Committed, Ended, InDoubt, Character, Text, Number, Syntax, End, Long, Line, NoSession, NotYet, NoTransaction, InTransaction, NoTable, NoBank, NameTaken, NotEmpty, NoNumberLeft, Fixed, NoColumn, KindMismatch, KeyColumn, ColumnCount, Duplicate, NullNotAllowed, TooLong, KeyTooWide, RowTooWide, TooManyWrites, Overflow, Halted, Aged, Conflict, HistoryFull, Full, Fault, Memory}
-use Rattle.odb_model.specs.Print.{head_text, line_of, row_line, reply_text}
+use Rattle.odb_model.specs.declared.reply.Reply.TheVariants.{Okay, Rows, Done, Committed, Ended, InDoubt, Bodies, Gates, Mark, Logged, Turned, Cleaned, Copying, Copied, LogFirst, Opened, State, Character, Text, Number, Syntax, End, Long, Line, NoSession, NotYet, NoTransaction, InTransaction, NoTable, NoBank, NameTaken, NotEmpty, NoCopyLeft, NoNumberLeft, NoShadow, NoBackup, Fixed, NoColumn, KindMismatch, KeyColumn, ColumnCount, Duplicate, NullNotAllowed, TooLong, KeyTooWide, RowTooWide, TooManyWrites, Overflow, Halted, Aged, Conflict, HistoryFull, Full, Fault, NotClean, Held, LogFull, Needed, NotHeld, Phase, NoFile, Limit, Memory}
+use Rattle.odb_model.specs.declared.phase.CopyLine.{CopyLine}
+use Rattle.odb_model.specs.declared.phase.StateReply.{StateReply}
+use Rattle.odb_model.specs.Print.{head_text, line_of, row_line, two_numbers, phase_text, log_words, copy_words, sides_words, state_text, reply_text}
 use Rattle.odb_model.specs.Script.{open_line}
 use Rattle.odb_model.specs.Acknowledged.{Acknowledges}
 use Rattle.odb_model.specs.Play.{Answer, text_of_answer, said_by}
@@ -78,6 +80,29 @@ other_words first words k other e = let same : first ≡ 67 = cc in other same
 pub line-ended : (head : Head) (words : List ℕ) → open_line (line_of head words) ≡ []
 line-ended head words = open_line-ended (head_text head ++ codes " " ++ words)
 
+-- lines of copies end with the last of them
+copies-ended : (head : Head) (copies : List CopyLine) → open_line (flat_map (λ c. line_of head (copy_words c)) copies) ≡ []
+copies-ended head [] = refl
+copies-ended head (c ∷ copies) =
+    open_line-append (line_of head (copy_words c)) (flat_map (λ d. line_of head (copy_words d)) copies) (line-ended head (copy_words c)) ∙ copies-ended head copies
+
+-- lines behind lines end with the last of them
+pub lines-ended : (head : Head) (front words : List ℕ) → open_line front ≡ [] → open_line (front ++ line_of head words) ≡ []
+lines-ended head front words ended = open_line-append front (line_of head words) ended ∙ line-ended head words
+
+-- the lines of STATE before those of copies
+pub head-ended : (head : Head) (s : StateReply) → open_line (line_of head (codes "NUMBER " ++ decimal s.number) ++ line_of head (sides_words s) ++ line_of head (log_words s.log)) ≡ []
+head-ended head s =
+    let number = codes "NUMBER " ++ decimal s.number in
+    lines-ended head (line_of head number ++ line_of head (sides_words s)) (log_words s.log) (lines-ended head (line_of head number) (sides_words s) (line-ended head number))
+
+-- what STATE tells ends with its last line
+state-ended : (head : Head) (s : StateReply) → open_line (state_text head s) ≡ []
+state-ended head s =
+    open_line-append (line_of head (codes "NUMBER " ++ decimal s.number) ++ line_of head (sides_words s) ++ line_of head (log_words s.log))
+    (flat_map (λ c. line_of head (copy_words c)) s.copies) (head-ended head s)
+    ∙ copies-ended head s.copies
+
 -- the text of a reply ends with its last line
 pub reply-ended : (head : Head) (reply : Reply) → open_line (reply_text head reply) ≡ []
 reply-ended head (Rows rows) =
@@ -89,6 +114,17 @@ reply-ended head (Done n) = line-ended head (codes "DONE " ++ decimal n)
 reply-ended head (Committed k) = line-ended head (codes "COMMITTED " ++ decimal k)
 reply-ended head (Ended p) = line-ended head (codes "ENDED " ++ decimal p)
 reply-ended head (InDoubt k) = line-ended head (codes "INDOUBT " ++ decimal k)
+reply-ended head (Bodies file number) = line-ended head (two_numbers (codes "BODIES") file number)
+reply-ended head (Gates file number) = line-ended head (two_numbers (codes "GATES") file number)
+reply-ended head (Mark file number) = line-ended head (two_numbers (codes "MARK") file number)
+reply-ended head (Logged number) = line-ended head (codes "LOGGED " ++ decimal number)
+reply-ended head (Turned side first) = line-ended head (two_numbers (codes "TURNED") side first)
+reply-ended head Cleaned = line-ended head (codes "CLEANED")
+reply-ended head (Copying file left) = line-ended head (two_numbers (codes "COPYING") file left)
+reply-ended head (Copied file mark) = line-ended head (two_numbers (codes "COPIED") file mark)
+reply-ended head (LogFirst number) = line-ended head (codes "LOGFIRST " ++ decimal number)
+reply-ended head (Opened number) = line-ended head (codes "OPENED " ++ decimal number)
+reply-ended head (State state) = state-ended head state
 reply-ended head (Character at) = line-ended head (codes "REFUSED CHARACTER " ++ decimal at)
 reply-ended head (Text at) = line-ended head (codes "REFUSED TEXT " ++ decimal at)
 reply-ended head (Number at) = line-ended head (codes "REFUSED NUMBER " ++ decimal at)
@@ -104,6 +140,9 @@ reply-ended head NoTable = line-ended head (codes "REFUSED NOTABLE")
 reply-ended head NoBank = line-ended head (codes "REFUSED NOBANK")
 reply-ended head NameTaken = line-ended head (codes "REFUSED NAMETAKEN")
 reply-ended head NotEmpty = line-ended head (codes "REFUSED NOTEMPTY")
+reply-ended head NoCopyLeft = line-ended head (codes "REFUSED NOCOPYLEFT")
+reply-ended head NoShadow = line-ended head (codes "REFUSED NOSHADOW")
+reply-ended head NoBackup = line-ended head (codes "REFUSED NOBACKUP")
 reply-ended head NoNumberLeft = line-ended head (codes "REFUSED NONUMBERLEFT")
 reply-ended head Fixed = line-ended head (codes "REFUSED FIXED")
 reply-ended head NoColumn = line-ended head (codes "REFUSED NOCOLUMN")
@@ -123,6 +162,14 @@ reply-ended head HistoryFull = line-ended head (codes "REFUSED HISTORYFULL")
 reply-ended head (Conflict j) = line-ended head (codes "REFUSED CONFLICT " ++ decimal j)
 reply-ended head (Full need room) = line-ended head (codes "REFUSED FULL " ++ decimal need ++ codes " " ++ decimal room)
 reply-ended head (Fault f) = line-ended head (codes "REFUSED FAULT " ++ decimal f)
+reply-ended head NotClean = line-ended head (codes "REFUSED NOTCLEAN")
+reply-ended head (Held mark last) = line-ended head (codes "REFUSED " ++ two_numbers (codes "HELD") mark last)
+reply-ended head (LogFull need room) = line-ended head (codes "REFUSED " ++ two_numbers (codes "LOGFULL") need room)
+reply-ended head (Needed mark) = line-ended head (codes "REFUSED NEEDED " ++ decimal mark)
+reply-ended head (NotHeld mark first) = line-ended head (codes "REFUSED " ++ two_numbers (codes "NOTHELD") mark first)
+reply-ended head (Phase file name) = line-ended head (codes "REFUSED PHASE " ++ decimal file ++ codes " " ++ phase_text name)
+reply-ended head (NoFile file) = line-ended head (codes "REFUSED NOFILE " ++ decimal file)
+reply-ended head (Limit file) = line-ended head (codes "REFUSED LIMIT " ++ decimal file)
 reply-ended head Memory = line-ended head (codes "REFUSED MEMORY")
 
 -- and so do the texts of replies, one behind another

@@ -13,6 +13,7 @@ use Rattle.odb_model.specs.Sides.{Sides, room_left}
 use Rattle.odb_model.specs.Window.{window_start, oldest_number}
 use Rattle.odb_model.specs.declared.statement.Statement.{Statement}
 use Rattle.odb_model.specs.Definitions.{Planned, Refused, Plans, planned}
+use Rattle.odb_model.specs.Readings.{Readings, is_told_in}
 
 -- the history, the sides of TRANSDB, and the entry of which it isn't known whether its record is on
 -- the disk
@@ -21,13 +22,19 @@ pub record Book : Type 0 where
   pub sides : Sides
   pub in_doubt : Option Entry
 
--- What a step meets outside, as far as its reply tells of it: the files of whose rise in their counts
--- of faults it tells; and of TRANSDB, file 0, whether it tells of a rise before the gate of a record
--- was written, and of one from that write on. A fault that was made good isn't told, and isn't here
+-- What a step meets outside. `rose` tells of files whose count of faults rose in the step; of which
+-- others it did isn't told, as of one whose fault was made good. Of TRANSDB, file 0, it is told whether
+-- the count rose before the gate of a record was written, and from that write on. `reads` is what each
+-- file that the store tells reads as
 pub record Seen : Type 0 where
   pub rose : ℕ → Bool
   pub rose_before_gate : Bool
   pub rose_at_gate : Bool
+  pub reads : Readings
+
+-- the store tells the file
+abbrev pub is_told : Seen → ℕ → Bool
+is_told seen file = is_told_in seen.reads file
 
 -- what a transaction comes to
 pub data Verdict : Type 0 where

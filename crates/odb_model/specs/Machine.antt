@@ -1,55 +1,19 @@
--- The machine: one history, 64 sessions and the log of commits. A step is a relation by cases on
--- the event and the reply.
-use Rattle.std.specs.Prelude.{◌≡◌, ℕ, ◌==◌, List, [], ◌∷◌, ◌++◌, length, Option, Some, None, if◌then◌else◌}
+-- The steps of the machine: a relation by cases on the event and the reply. What the machine holds is
+-- told in `MachineState`.
+use Rattle.std.specs.Prelude.{◌≡◌, ℕ, Bool, true, false, List, [], ◌∷◌, ◌++◌, length, if◌then◌else◌}
 use Rattle.odb_model.specs.declared.write.Write.{Write}
-use Rattle.odb_model.specs.declared.entry.Entry.{Entry}
 use Rattle.odb_model.specs.declared.event.Event.{Event}
 use Rattle.odb_model.specs.declared.event.Event.TheVariants.{Session as OfSession, Control}
+use Rattle.odb_model.specs.declared.control.Control.{Control as ControlLine}
 use Rattle.odb_model.specs.declared.reply.Reply.{Reply}
 use Rattle.odb_model.specs.declared.reply.Reply.TheVariants.{Okay, NotYet, NoTransaction, InTransaction, Memory}
 use Rattle.odb_model.specs.declared.statement.Statement.{Statement}
 use Rattle.odb_model.specs.declared.statement.Statement.TheVariants.{Start, Commit, Rollback, Select, Insert, Update, Delete, CreateTable, DropTable}
 use Rattle.odb_model.specs.Transaction.{Executed, open_reply, write_set_of}
 use Rattle.odb_model.specs.Session.{Session, Idle, Working}
-use Rattle.odb_model.specs.Sides.{Sides}
 use Rattle.odb_model.specs.Book.{Book, Seen, verdict, Decides, Defines, ends_transaction}
-
--- An entry is in doubt where it isn't known whether its record is on the disk. The format is the
--- database's, 1 or 2; no step changes it
-pub record Machine : Type 0 where
-  pub history : List Entry
-  pub sessions : ℕ → Session
-  pub sides : Sides
-  pub in_doubt : Option Entry
-  pub format : ℕ
-
--- the machine that begins with a history in a database of this format: all sessions are idle
-abbrev pub first_machine : ℕ → Sides → List Entry → Machine
-first_machine format sides h = record {
-  history = h;
-  sessions = λ _. Idle;
-  sides = sides;
-  in_doubt = None;
-  format = format;
-}
-
-abbrev pub with_session : Machine → ℕ → Session → Machine
-with_session m s t = record m { sessions = λ q. if q == s then t else m.sessions q }
-
--- the part of the machine that a commit is judged by
-abbrev pub book_of : Machine → Book
-book_of m = record { history = m.history; sides = m.sides; in_doubt = m.in_doubt }
-
-abbrev pub with_book : Machine → Book → Machine
-with_book m b = record m { history = b.history; sides = b.sides; in_doubt = b.in_doubt }
-
--- the history, and the entry in doubt where there is one
-abbrev pub with_doubt : List Entry → Option Entry → List Entry
-with_doubt h None = h
-with_doubt h (Some e) = h ++ e ∷ []
-
-abbrev pub history_or_more : Machine → List Entry
-history_or_more m = with_doubt m.history m.in_doubt
+pub use Rattle.odb_model.specs.MachineState.{Machine, first_machine, with_session, book_of, with_book, with_doubt, history_or_more}
+use Rattle.odb_model.specs.Controls.{Controls}
 
 -- the write set of a transaction
 abbrev pub writes_made : Machine → List Executed → List Write
@@ -100,8 +64,8 @@ RollsBack m s Idle reply after = ⊥
 RollsBack m s (Working t) Okay after = after ≡ with_session m s Idle
 RollsBack m s (Working t) reply after = ⊥
 
--- A definition that is built, CREATE TABLE or DROP TABLE, which is one commit step. In a transaction it is
--- refused before all else; no session changes
+-- A definition of a table, CREATE TABLE or DROP TABLE, which is one commit step. In a transaction it is
+-- refused before all else; no session changes. Those that work on copies are `Arranges`
 abbrev pub DefinesIn : Machine → ℕ → Seen → Statement → Session → Reply → Machine → Type 0
 DefinesIn m s seen st session Memory after = after ≡ m
 DefinesIn m s seen st (Working t) InTransaction after = after ≡ m
@@ -109,7 +73,8 @@ DefinesIn m s seen st (Working t) reply after = ⊥
 DefinesIn m s seen st Idle reply after =
     (b : Book) × Defines (book_of m) seen s st reply b × (after ≡ with_book m b)
 
--- a definition that isn't built: it is refused by its form alone, whatever the session is in
+-- A definition that isn't built, as none is that works on copies: it is refused by its form alone,
+-- whatever the session is in
 abbrev pub Refuses : Machine → Reply → Machine → Type 0
 Refuses m NotYet after = after ≡ m
 Refuses m Memory after = after ≡ m
@@ -134,12 +99,23 @@ StatementStep m s seen (DropTable name) reply after =
     DefinesIn m s seen (DropTable name) (m.sessions s) reply after
 StatementStep m s seen other reply after = Refuses m reply after
 
--- a step of upkeep, none of which is built
+-- Whether a control line is built. None is yet: each is answered NOTYET, whatever the machine is at
+abbrev pub is_built : ControlLine → Bool
+is_built line = false
+
+-- a line that isn't built
 abbrev pub UpkeepStep : Machine → Reply → Machine → Type 0
 UpkeepStep m NotYet after = after ≡ m
 UpkeepStep m reply after = ⊥
 
+-- a control line, built or not
+abbrev pub ControlStep :
+    Bool → Machine → Seen → ControlLine → Reply → Machine → Type 0
+ControlStep true m seen line reply after = Controls m seen line reply after
+ControlStep false m seen line reply after = UpkeepStep m reply after
+
 -- From m, an event in whose step this was seen may get this reply, and then leads to `after`
 abbrev pub Step : Machine → Event → Seen → Reply → Machine → Type 0
 Step m (OfSession s st) seen reply after = StatementStep m s seen st reply after
-Step m (Control control) seen reply after = UpkeepStep m reply after
+Step m (Control line) seen reply after =
+    ControlStep (is_built line) m seen line reply after

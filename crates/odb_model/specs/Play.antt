@@ -6,7 +6,7 @@ use Rattle.odb_model.specs.declared.reply.Head.TheVariants.{Session as OfSession
 use Rattle.odb_model.specs.declared.reply.Reply.{Reply}
 use Rattle.odb_model.specs.declared.reply.Reply.TheVariants.{Committed, Ended, InDoubt, Fault}
 use Rattle.odb_model.specs.declared.status.Status.{Status}
-use Rattle.odb_model.specs.declared.status.Status.TheVariants.{Done, Usage, ReadFault, WriteFault, FileFault, NoDatabase, Exists, Damaged, NotHeld, InputTooLong, NoMemory}
+use Rattle.odb_model.specs.declared.status.Status.TheVariants.{Done, Usage, ReadFault, WriteFault, FileFault, NoDatabase, Exists, Damaged, NotHeld, InputTooLong, NoMemory, NotACopy, Unfinished}
 use Rattle.odb_model.specs.declared.entry.Entry.{Entry}
 use Rattle.odb_model.specs.Session.{Session, Idle, Working}
 use Rattle.odb_model.specs.Book.{Seen}
@@ -148,3 +148,5 @@ PlayEnds rose m NoDatabase begun ended input answers output = ⊥
 PlayEnds rose m Exists begun ended input answers output = ⊥
 PlayEnds rose m (Damaged file at) begun ended input answers output = ⊥
 PlayEnds rose m (NotHeld bank mark first) begun ended input answers output = ⊥
+PlayEnds rose m (NotACopy bank file) begun ended input answers output = ⊥
+PlayEnds rose m (Unfinished file) begun ended input answers output = ⊥

@@ -1,7 +1,7 @@
 -- The numbers and texts of the program's statuses.
 use Rattle.std.specs.Prelude.{ℕ, List, [], ◌++◌, codes, decimal}
 use Rattle.odb_model.specs.declared.status.Status.{Status}
-use Rattle.odb_model.specs.declared.status.Status.TheVariants.{Done, Usage, ReadFault, WriteFault, FileFault, NoDatabase, Exists, Damaged, NotHeld, InputTooLong, NoMemory}
+use Rattle.odb_model.specs.declared.status.Status.TheVariants.{Done, Usage, ReadFault, WriteFault, FileFault, NoDatabase, Exists, Damaged, NotHeld, InputTooLong, NoMemory, NotACopy, Unfinished}
 
 abbrev pub number_of : Status → ℕ
 number_of Done = 0
@@ -15,6 +15,8 @@ number_of (Damaged file at) = 8
 number_of (NotHeld bank mark first) = 9
 number_of InputTooLong = 10
 number_of NoMemory = 11
+number_of (NotACopy bank file) = 12
+number_of (Unfinished file) = 13
 
 abbrev pub text_of : Status → List ℕ
 text_of Done = []
@@ -31,3 +33,6 @@ text_of (NotHeld bank mark first) =
     ++ codes " first " ++ decimal first
 text_of InputTooLong = codes "optsql: input too long"
 text_of NoMemory = codes "optsql: no memory"
+text_of (NotACopy bank file) =
+    codes "optsql: not a copy: bank " ++ decimal bank ++ codes " file " ++ decimal file
+text_of (Unfinished file) = codes "optsql: unfinished: file " ++ decimal file

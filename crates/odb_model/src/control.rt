@@ -5,7 +5,8 @@ use std::alloc::{AllocError, Global};
 /// What a control line asks for.
 #[derive(Clone, Copy, Debug, PartialEq, Eq)]
 pub enum Control {
-    /// Puts what the log has of a copy, by its file, into the bodies of free slots.
+    /// Writes the records of the next entries for a copy, by its file, into free slots, behind
+    /// closed gates.
     Bodies(u32),
     /// Opens the gates of those slots.
     Gates(u32),

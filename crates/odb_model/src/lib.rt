@@ -14,6 +14,7 @@ mod keyword;
 mod laws;
 mod numbers;
 mod outcome;
+mod phase;
 mod predicate;
 mod reply;
 mod side;
@@ -35,6 +36,7 @@ pub use laws::{
 };
 pub use numbers::{LF, SESSIONS};
 pub use outcome::{Outcome, Ranges, Read};
+pub use phase::{CopyLine, CopyLines, CopyPhase, LogSpan, StateReply};
 pub use predicate::{Compare, Operand, Predicate};
 pub use reply::{Head, Reply};
 pub use side::OtherSide;

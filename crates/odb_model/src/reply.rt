@@ -1,5 +1,5 @@
 //! The replies, and whom each names.
-use crate::ValueRows;
+use crate::{CopyPhase, StateReply, ValueRows};
 use odb_values::Duplicate;
 use std::alloc::{AllocError, Global};
 
@@ -27,9 +27,33 @@ pub enum Reply {
     Committed(u64),
     /// COMMIT is done without a write, after this many entries.
     Ended(u64),
-    /// It isn't known whether COMMIT is done: the entry of this number may be there. The
-    /// transaction is over, and until the files are opened again every COMMIT is refused.
+    /// It isn't known whether COMMIT, or a definition, is done: the entry of this number may be
+    /// there. The transaction is over. Until the files are opened again every COMMIT, every
+    /// definition and each control line but STATE and REOPEN is refused.
     InDoubt(u64),
+    /// The bodies of a turn of the copy in this file are written; its gates and its mark will reach
+    /// this number.
+    Bodies { file: u32, number: u64 },
+    /// The gates of the turn are open; its mark will reach this number.
+    Gates { file: u32, number: u64 },
+    /// The turn is over, and the copy is complete to this number.
+    Mark { file: u32, number: u64 },
+    /// LOG is done, and this is the number of LOGDB's last entry.
+    Logged(u64),
+    /// TURN is done: this side of TRANSDB, 0 or 1, takes the new records, from this number on.
+    Turned { side: u32, first: u64 },
+    /// CLEAN is done: the other side of TRANSDB is zeros.
+    Cleaned,
+    /// So many records are left to be copied to the copy in this file.
+    Copying { file: u32, left: u64 },
+    /// All records are copied to this file, and it is complete to this number.
+    Copied { file: u32, mark: u64 },
+    /// DROPLOG or NEWLOG is done, and this is the number of LOGDB's first entry.
+    LogFirst(u64),
+    /// The files are opened again, and the history has so many entries.
+    Opened(u64),
+    /// What STATE tells.
+    State(StateReply),
     /// A byte of the statement's text, at this place from 0, can't stand there.
     Character(u64),
     /// The quoted text whose first quote stands at this place of the statement's text has no end.
@@ -51,7 +75,7 @@ pub enum Reply {
     NotYet,
     /// The statement wants a transaction, and the session is in none.
     NoTransaction,
-    /// START wants no transaction, and the session is in one.
+    /// START, or a definition, wants no transaction, and the session is in one.
     InTransaction,
     /// No table of the dictionary has the name. The statement changed nothing, as with each refusal
     /// below up to TooManyWrites.
@@ -63,8 +87,14 @@ pub enum Reply {
     NameTaken,
     /// The table holds a row, and so can't be dropped.
     NotEmpty,
+    /// There are sixteen copies of databanks, and there may be no more.
+    NoCopyLeft,
     /// All numbers that the dictionary gives to its objects have been used.
     NoNumberLeft,
+    /// No shadow of the dictionary has the name.
+    NoShadow,
+    /// No backup of the dictionary has the name; or the one that has it is another databank's.
+    NoBackup,
     /// The object is fixed: no definition changes it.
     Fixed,
     /// The table has no column of a name that the statement names.
@@ -92,8 +122,8 @@ pub enum Reply {
     TooManyWrites,
     /// A sum lies outside the numbers of 64 bits. The statement changed nothing.
     Overflow,
-    /// The entry of this number is in doubt. The transaction stands, and can't be committed before
-    /// the files are opened again.
+    /// The entry of this number is in doubt. A transaction stands; it can't be committed, and no
+    /// definition or control line but STATE is taken, before the files are opened again.
     Halted(u64),
     /// The transaction read where the history had so many entries, and those behind them are no
     /// longer all kept: the entries up to `start` aren't. So it can't be told whether it conflicts.
@@ -102,14 +132,33 @@ pub enum Reply {
     /// The entry of this number wrote a range that the transaction had read before. The transaction
     /// is over.
     Conflict(u64),
-    /// The history has as many entries as it may have. The transaction stands.
+    /// The history has as many entries as it may have. A transaction stands.
     HistoryFull,
-    /// The record of the transaction needs so many bytes, and the active side of TRANSDB has so
-    /// many left. The transaction stands.
+    /// The record of the entry needs so many bytes, and the active side of TRANSDB has so many
+    /// left. A transaction stands.
     Full { need: u64, room: u64 },
-    /// A call on the file of this number failed, and nothing was committed. The transaction stands
-    /// and may be committed again.
+    /// A call on the file of this number failed, and nothing was committed. A transaction stands
+    /// and may be committed again, as a definition or a control line may be asked for again. Of LOG,
+    /// COPY, CLEAN, DROPLOG and BODIES a part may be done.
     Fault(u32),
+    /// The other side of TRANSDB isn't clean, so it can't be taken into use.
+    NotClean,
+    /// The other side of TRANSDB holds entries up to `last`, and those above `mark` may still be
+    /// wanted by a copy or by LOGDB.
+    Held { mark: u64, last: u64 },
+    /// The record of the next entry needs so many bytes, and LOGDB has so many left. The entries
+    /// before it are added.
+    LogFull { need: u64, room: u64 },
+    /// LOGDB's entries above this number may still be wanted by a copy.
+    Needed(u64),
+    /// The entries that the copy lacks, those above its mark, are held from a later number on.
+    NotHeld { mark: u64, first: u64 },
+    /// The copy in this file, or LOGDB where the file is 1, is at this, which the step doesn't take.
+    Phase { file: u32, name: CopyPhase },
+    /// The dictionary names no copy in this file; or the copy isn't a new one, and COPY wants one.
+    NoFile(u32),
+    /// The file has too few slots for the records of the turn. Nothing has changed.
+    Limit(u32),
     /// Memory ran out. Nothing has changed.
     Memory,
 }
@@ -123,6 +172,35 @@ impl Duplicate for Reply {
             Reply::Committed(number) => Ok(Reply::Committed(*number)),
             Reply::Ended(number) => Ok(Reply::Ended(*number)),
             Reply::InDoubt(number) => Ok(Reply::InDoubt(*number)),
+            Reply::Bodies { file, number } => Ok(Reply::Bodies {
+                file: *file,
+                number: *number,
+            }),
+            Reply::Gates { file, number } => Ok(Reply::Gates {
+                file: *file,
+                number: *number,
+            }),
+            Reply::Mark { file, number } => Ok(Reply::Mark {
+                file: *file,
+                number: *number,
+            }),
+            Reply::Logged(number) => Ok(Reply::Logged(*number)),
+            Reply::Turned { side, first } => Ok(Reply::Turned {
+                side: *side,
+                first: *first,
+            }),
+            Reply::Cleaned => Ok(Reply::Cleaned),
+            Reply::Copying { file, left } => Ok(Reply::Copying {
+                file: *file,
+                left: *left,
+            }),
+            Reply::Copied { file, mark } => Ok(Reply::Copied {
+                file: *file,
+                mark: *mark,
+            }),
+            Reply::LogFirst(number) => Ok(Reply::LogFirst(*number)),
+            Reply::Opened(number) => Ok(Reply::Opened(*number)),
+            Reply::State(state) => Ok(Reply::State(state.copy(alloc)?)),
             Reply::Character(at) => Ok(Reply::Character(*at)),
             Reply::Text(at) => Ok(Reply::Text(*at)),
             Reply::Number(at) => Ok(Reply::Number(*at)),
@@ -138,7 +216,10 @@ impl Duplicate for Reply {
             Reply::NoBank => Ok(Reply::NoBank),
             Reply::NameTaken => Ok(Reply::NameTaken),
             Reply::NotEmpty => Ok(Reply::NotEmpty),
+            Reply::NoCopyLeft => Ok(Reply::NoCopyLeft),
             Reply::NoNumberLeft => Ok(Reply::NoNumberLeft),
+            Reply::NoShadow => Ok(Reply::NoShadow),
+            Reply::NoBackup => Ok(Reply::NoBackup),
             Reply::Fixed => Ok(Reply::Fixed),
             Reply::NoColumn => Ok(Reply::NoColumn),
             Reply::KindMismatch => Ok(Reply::KindMismatch),
@@ -163,6 +244,26 @@ impl Duplicate for Reply {
                 room: *room,
             }),
             Reply::Fault(file) => Ok(Reply::Fault(*file)),
+            Reply::NotClean => Ok(Reply::NotClean),
+            Reply::Held { mark, last } => Ok(Reply::Held {
+                mark: *mark,
+                last: *last,
+            }),
+            Reply::LogFull { need, room } => Ok(Reply::LogFull {
+                need: *need,
+                room: *room,
+            }),
+            Reply::Needed(mark) => Ok(Reply::Needed(*mark)),
+            Reply::NotHeld { mark, first } => Ok(Reply::NotHeld {
+                mark: *mark,
+                first: *first,
+            }),
+            Reply::Phase { file, name } => Ok(Reply::Phase {
+                file: *file,
+                name: *name,
+            }),
+            Reply::NoFile(file) => Ok(Reply::NoFile(*file)),
+            Reply::Limit(file) => Ok(Reply::Limit(*file)),
             Reply::Memory => Ok(Reply::Memory),
         }
     }

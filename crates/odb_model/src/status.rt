@@ -30,6 +30,10 @@ pub enum Status {
     InputTooLong,
     /// Memory ran out.
     NoMemory,
+    /// A databank is to be read from a file in which the dictionary names no copy of it.
+    NotACopy { bank: u32, file: u32 },
+    /// A databank is to be read from a copy of it that is new, to which not all was copied.
+    Unfinished { file: u32 },
 }
 
 impl Status {
@@ -49,6 +53,8 @@ impl Status {
             Status::NotHeld { .. } => 9,
             Status::InputTooLong => 10,
             Status::NoMemory => 11,
+            Status::NotACopy { .. } => 12,
+            Status::Unfinished { .. } => 13,
         }
     }
 
@@ -73,6 +79,10 @@ impl Status {
             }
             Status::InputTooLong => format!(in alloc; "optsql: input too long"),
             Status::NoMemory => format!(in alloc; "optsql: no memory"),
+            Status::NotACopy { bank, file } => {
+                format!(in alloc; "optsql: not a copy: bank {bank} file {file}")
+            }
+            Status::Unfinished { file } => format!(in alloc; "optsql: unfinished: file {file}"),
         }
     }
 }

@@ -17,9 +17,9 @@ use Rattle.odb_kept.specs.Running.{machine_after as after_all, IsRunning}
 use Rattle.odb_kept.proofs.Running.{answered, goes_on, goes_on_silently, run_none, run_then, stepped, steps_behind}
 use Rattle.odb_model.specs.declared.reply.Head.{Head}
 use Rattle.odb_model.specs.declared.reply.Reply.{Reply}
-use Rattle.odb_model.specs.declared.reply.Reply.TheVariants.{Okay, Rows, Done, Committed, Ended, InDoubt, Character, Text, Number, Syntax, End, Long, Line, NoSession, NotYet, NoTransaction, InTransaction, NoTable, NoBank, NameTaken, NotEmpty, NoNumberLeft, Fixed, NoColumn, KindMismatch, KeyColumn, ColumnCount, Duplicate, NullNotAllowed, TooLong, KeyTooWide, RowTooWide, TooManyWrites, Overflow, Halted, Aged, Conflict, HistoryFull, Full, Fault, Memory}
+use Rattle.odb_model.specs.declared.reply.Reply.TheVariants.{Okay, Rows, Done, Committed, Ended, InDoubt, Bodies, Gates, Mark, Logged, Turned, Cleaned, Copying, Copied, LogFirst, Opened, State, Character, Text, Number, Syntax, End, Long, Line, NoSession, NotYet, NoTransaction, InTransaction, NoTable, NoBank, NameTaken, NotEmpty, NoCopyLeft, NoNumberLeft, NoShadow, NoBackup, Fixed, NoColumn, KindMismatch, KeyColumn, ColumnCount, Duplicate, NullNotAllowed, TooLong, KeyTooWide, RowTooWide, TooManyWrites, Overflow, Halted, Aged, Conflict, HistoryFull, Full, Fault, NotClean, Held, LogFull, Needed, NotHeld, Phase, NoFile, Limit, Memory}
 use Rattle.odb_model.specs.Machine.{Machine}
-use Rattle.odb_model.specs.Print.{head_text, line_of, row_line, reply_text}
+use Rattle.odb_model.specs.Print.{head_text, line_of, row_line, two_numbers, phase_text, log_words, copy_words, sides_words, reply_text}
 use Rattle.odb_model.specs.Play.{Answer, text_of_answer, said_by, machine_after}
 use Rattle.odb_reply.specs.Telling.{TellsAlone}
 use Rattle.odb_system.specs.Kept.{OpensBy, IsKept, Rests}
@@ -51,6 +51,10 @@ some_line front none = omega (arith, ap length none, length-append front (10 ∷
 line_said : (head : Head) (words : List ℕ) → line_of head words ≢ []
 line_said head words none = some_line (head_text head ++ codes " " ++ words) none
 
+more_said : (front more : List ℕ) → front ≢ [] → front ++ more ≢ []
+more_said [] more some none = some refl
+more_said (x ∷ front) more some none = cc
+
 reply_said : (head : Head) (reply : Reply) → reply_text head reply ≢ []
 reply_said head (Rows rows) = λ none.
     omega (
@@ -68,6 +72,20 @@ reply_said head (Done n) = line_said head (codes "DONE " ++ decimal n)
 reply_said head (Committed k) = line_said head (codes "COMMITTED " ++ decimal k)
 reply_said head (Ended p) = line_said head (codes "ENDED " ++ decimal p)
 reply_said head (InDoubt k) = line_said head (codes "INDOUBT " ++ decimal k)
+reply_said head (Bodies file number) = line_said head (two_numbers (codes "BODIES") file number)
+reply_said head (Gates file number) = line_said head (two_numbers (codes "GATES") file number)
+reply_said head (Mark file number) = line_said head (two_numbers (codes "MARK") file number)
+reply_said head (Logged number) = line_said head (codes "LOGGED " ++ decimal number)
+reply_said head (Turned side first) = line_said head (two_numbers (codes "TURNED") side first)
+reply_said head Cleaned = line_said head (codes "CLEANED")
+reply_said head (Copying file left) = line_said head (two_numbers (codes "COPYING") file left)
+reply_said head (Copied file mark) = line_said head (two_numbers (codes "COPIED") file mark)
+reply_said head (LogFirst number) = line_said head (codes "LOGFIRST " ++ decimal number)
+reply_said head (Opened number) = line_said head (codes "OPENED " ++ decimal number)
+reply_said head (State s) =
+    let number = codes "NUMBER " ++ decimal s.number in
+    more_said (line_of head number ++ line_of head (sides_words s) ++ line_of head (log_words s.log)) (flat_map (λ c. line_of head (copy_words c)) s.copies)
+    (more_said (line_of head number ++ line_of head (sides_words s)) (line_of head (log_words s.log)) (more_said (line_of head number) (line_of head (sides_words s)) (line_said head number)))
 reply_said head (Character at) = line_said head (codes "REFUSED CHARACTER " ++ decimal at)
 reply_said head (Text at) = line_said head (codes "REFUSED TEXT " ++ decimal at)
 reply_said head (Number at) = line_said head (codes "REFUSED NUMBER " ++ decimal at)
@@ -83,6 +101,9 @@ reply_said head NoTable = line_said head (codes "REFUSED NOTABLE")
 reply_said head NoBank = line_said head (codes "REFUSED NOBANK")
 reply_said head NameTaken = line_said head (codes "REFUSED NAMETAKEN")
 reply_said head NotEmpty = line_said head (codes "REFUSED NOTEMPTY")
+reply_said head NoCopyLeft = line_said head (codes "REFUSED NOCOPYLEFT")
+reply_said head NoShadow = line_said head (codes "REFUSED NOSHADOW")
+reply_said head NoBackup = line_said head (codes "REFUSED NOBACKUP")
 reply_said head NoNumberLeft = line_said head (codes "REFUSED NONUMBERLEFT")
 reply_said head Fixed = line_said head (codes "REFUSED FIXED")
 reply_said head NoColumn = line_said head (codes "REFUSED NOCOLUMN")
@@ -102,6 +123,14 @@ reply_said head HistoryFull = line_said head (codes "REFUSED HISTORYFULL")
 reply_said head (Conflict j) = line_said head (codes "REFUSED CONFLICT " ++ decimal j)
 reply_said head (Full need room) = line_said head (codes "REFUSED FULL " ++ decimal need ++ codes " " ++ decimal room)
 reply_said head (Fault f) = line_said head (codes "REFUSED FAULT " ++ decimal f)
+reply_said head NotClean = line_said head (codes "REFUSED NOTCLEAN")
+reply_said head (Held mark last) = line_said head (codes "REFUSED " ++ two_numbers (codes "HELD") mark last)
+reply_said head (LogFull need room) = line_said head (codes "REFUSED " ++ two_numbers (codes "LOGFULL") need room)
+reply_said head (NotHeld mark first) = line_said head (codes "REFUSED " ++ two_numbers (codes "NOTHELD") mark first)
+reply_said head (Needed n) = line_said head (codes "REFUSED NEEDED " ++ decimal n)
+reply_said head (NoFile n) = line_said head (codes "REFUSED NOFILE " ++ decimal n)
+reply_said head (Limit n) = line_said head (codes "REFUSED LIMIT " ++ decimal n)
+reply_said head (Phase file name) = line_said head (codes "REFUSED PHASE " ++ decimal file ++ codes " " ++ phase_text name)
 reply_said head Memory = line_said head (codes "REFUSED MEMORY")
 
 pub audible : (answer : Answer) → text_of_answer answer ≢ []

@@ -14,7 +14,7 @@ use Rattle.odb_kept.proofs.Keeping.{step_within}
 use Rattle.odb_kept.proofs.Running.{opened_then}
 use Rattle.odb_model.specs.declared.entry.Entry.{Entry}
 use Rattle.odb_model.specs.declared.status.Status.{Status}
-use Rattle.odb_model.specs.declared.status.Status.TheVariants.{Done, Usage, ReadFault, WriteFault, FileFault, NoDatabase, Exists, Damaged, NotHeld, InputTooLong, NoMemory}
+use Rattle.odb_model.specs.declared.status.Status.TheVariants.{Done, Usage, ReadFault, WriteFault, FileFault, NoDatabase, Exists, Damaged, NotHeld, InputTooLong, NoMemory, NotACopy, Unfinished}
 use Rattle.odb_model.specs.Machine.{Machine, first_machine, history_or_more}
 use Rattle.odb_model.specs.Script.{ended_lines, all_lines}
 use Rattle.odb_model.specs.State.{IsNumberedFrom}
@@ -70,6 +70,8 @@ ends_wider P Q m NoDatabase begun ended input answers output gives ends = absurd
 ends_wider P Q m Exists begun ended input answers output gives ends = absurd ends
 ends_wider P Q m (Damaged file at) begun ended input answers output gives ends = absurd ends
 ends_wider P Q m (NotHeld bank mark first) begun ended input answers output gives ends = absurd ends
+ends_wider P Q m (NotACopy bank file) begun ended input answers output gives ends = absurd ends
+ends_wider P Q m (Unfinished file) begun ended input answers output gives ends = absurd ends
 
 -- however it ends, the answers are those of a run
 run_played : (P : ℕ → ℕ → Type 0) (m : Machine) (status : Status) (begun ended : Bool) (input : List ℕ) (answers : List Answer) (output : List ℕ) → PlayEnds P m status begun ended input answers output
@@ -85,6 +87,8 @@ run_played P m NoDatabase begun ended input answers output ends = absurd ends
 run_played P m Exists begun ended input answers output ends = absurd ends
 run_played P m (Damaged file at) begun ended input answers output ends = absurd ends
 run_played P m (NotHeld bank mark first) begun ended input answers output ends = absurd ends
+run_played P m (NotACopy bank file) begun ended input answers output ends = absurd ends
+run_played P m (Unfinished file) begun ended input answers output ends = absurd ends
 
 -- the machine at entry, and what is read
 
@@ -240,6 +244,8 @@ outcome_played NoDatabase old new from = absurd from.played.ends
 outcome_played Exists old new from = absurd from.played.ends
 outcome_played (Damaged file at) old new from = absurd from.played.ends
 outcome_played (NotHeld bank mark first) old new from = absurd from.played.ends
+outcome_played (NotACopy bank file) old new from = absurd from.played.ends
+outcome_played (Unfinished file) old new from = absurd from.played.ends
 
 pub outcome_refused : (status : Status) (old new : World) → RefusesOpening status → IsRefused status old new → PlayOutcome status old new
 outcome_refused NoMemory old new refusal refused = inl refused
@@ -253,6 +259,8 @@ outcome_refused ReadFault old new refusal refused = absurd refusal
 outcome_refused WriteFault old new refusal refused = absurd refusal
 outcome_refused Exists old new refusal refused = absurd refusal
 outcome_refused InputTooLong old new refusal refused = absurd refusal
+outcome_refused (NotACopy bank file) old new refusal refused = absurd refusal
+outcome_refused (Unfinished file) old new refusal refused = absurd refusal
 
 opening_of : (h : Header) (es : List Entry) (m : Machine) (status : Status) (what : Opened) (old new : World) → first_held h ≡ 1 → what ≡ holding h es → IsPlayed m status old new
     → IsOpeningOf status what
@@ -267,6 +275,8 @@ opening_of h es m NoDatabase what old new whole opens played = absurd played.end
 opening_of h es m Exists what old new whole opens played = absurd played.ends
 opening_of h es m (Damaged file at) what old new whole opens played = absurd played.ends
 opening_of h es m (NotHeld bank mark first) what old new whole opens played = absurd played.ends
+opening_of h es m (NotACopy bank file) what old new whole opens played = absurd played.ends
+opening_of h es m (Unfinished file) what old new whole opens played = absurd played.ends
 
 opening_by : (h : Header) (es : List Entry) (m : Machine) (status : Status) (file : Option File) (mid new : World) → first_held h ≡ 1
     → IfSome file (λ f. opened f.bytes ≡ holding h es) → IsPlayed m status mid new → IfSome file (λ f. IsOpeningOf status (opened f.bytes))

@@ -25,6 +25,7 @@ use Rattle.odb_play.specs.Played.{Replies, LineEnds}
 use Rattle.odb_play.proofs.Steps.{never_doubt}
 use Rattle.odb_play.proofs.Parts.{line_untold, line_part, line_whole}
 use Rattle.odb_model.specs.declared.reply.Reply.TheVariants.{Committed, Fault, InDoubt}
+use Rattle.odb_model.specs.Readings.{nothing_told}
 use Rattle.odb_model.specs.Book.{Seen}
 use Rattle.odb_model.specs.Machine.{Machine}
 use Rattle.odb_model.specs.Script.{IsRequest, IsRefused, head_of}
@@ -71,7 +72,7 @@ replies_event line m event reply held old new request stepped = record {
 
 -- nothing was seen
 abbrev nothing_seen : Seen
-nothing_seen = record { rose = λ file. false; rose_before_gate = false; rose_at_gate = false }
+nothing_seen = record { rose = λ file. false; rose_before_gate = false; rose_at_gate = false; reads = nothing_told }
 
 -- a refused line is never answered by a commit or a fault
 unwritten : (line : List ℕ) (m : Machine) (head : Head) (reply : Reply) (w : World) → IsRefused line head reply → StepWrites m reply w w

@@ -5,7 +5,7 @@ use Rattle.odb_device.specs.Calls.{Keeps}
 use Rattle.odb_device.specs.Steps.{Steps}
 use Rattle.odb_model.specs.declared.entry.Entry.{Entry}
 use Rattle.odb_model.specs.declared.status.Status.{Status}
-use Rattle.odb_model.specs.declared.status.Status.TheVariants.{Done, Usage, ReadFault, WriteFault, FileFault, NoDatabase, Exists, Damaged, NotHeld, InputTooLong, NoMemory}
+use Rattle.odb_model.specs.declared.status.Status.TheVariants.{Done, Usage, ReadFault, WriteFault, FileFault, NoDatabase, Exists, Damaged, NotHeld, InputTooLong, NoMemory, NotACopy, Unfinished}
 use Rattle.odb_model.specs.Sides.{Sides}
 use Rattle.odb_model.specs.Machine.{first_machine}
 use Rattle.odb_transdb.specs.declared.header.Header.{Header}
@@ -43,6 +43,8 @@ IsOpeningOf (FileFault file) what = Unit {0}
 IsOpeningOf NoMemory what = Unit {0}
 IsOpeningOf Usage what = ⊥
 IsOpeningOf Exists what = ⊥
+IsOpeningOf (NotACopy bank file) what = ⊥
+IsOpeningOf (Unfinished file) what = ⊥
 
 -- the bytes hold these entries, from number 1 on, in a database of this format with these sides
 abbrev pub HoldsFrom : ℕ → Sides → List Entry → Opened → Type 0
@@ -95,3 +97,5 @@ PlayOutcome (NotHeld bank mark first) old new = IsRefused (NotHeld bank mark fir
 PlayOutcome (FileFault file) old new = IsRefused (FileFault file) old new
 PlayOutcome Usage old new = ⊥
 PlayOutcome Exists old new = ⊥
+PlayOutcome (NotACopy bank file) old new = ⊥
+PlayOutcome (Unfinished file) old new = ⊥

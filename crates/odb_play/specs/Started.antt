@@ -2,7 +2,7 @@
 use Rattle.std.specs.Prelude.{◌≡◌, List, Some, IfSome}
 use Rattle.odb_device.specs.World.{World, file_of}
 use Rattle.odb_model.specs.declared.status.Status.{Status}
-use Rattle.odb_model.specs.declared.status.Status.TheVariants.{Done, Usage, ReadFault, WriteFault, FileFault, NoDatabase, Exists, Damaged, NotHeld, InputTooLong, NoMemory}
+use Rattle.odb_model.specs.declared.status.Status.TheVariants.{Done, Usage, ReadFault, WriteFault, FileFault, NoDatabase, Exists, Damaged, NotHeld, InputTooLong, NoMemory, NotACopy, Unfinished}
 use Rattle.odb_model.specs.declared.entry.Entry.{Entry}
 use Rattle.odb_model.specs.Machine.{Machine, first_machine}
 use Rattle.odb_transdb.specs.Header.{first_held}
@@ -53,3 +53,5 @@ RefusesOpening ReadFault = ⊥
 RefusesOpening WriteFault = ⊥
 RefusesOpening Exists = ⊥
 RefusesOpening InputTooLong = ⊥
+RefusesOpening (NotACopy bank file) = ⊥
+RefusesOpening (Unfinished file) = ⊥

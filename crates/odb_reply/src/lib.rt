@@ -6,6 +6,7 @@
 
 mod error;
 mod print;
+mod state;
 mod values;
 
 pub use error::ReplyError;

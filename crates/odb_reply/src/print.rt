@@ -1,13 +1,14 @@
 //! The bytes of a reply, a line at a time.
-ghost use Rattle.std.specs.Prelude.{◌≡◌, ◌++◌, decimal, All, IfOk, OnOk};
+ghost use Rattle.std.specs.Prelude.{◌≡◌, ◌++◌, codes, decimal, All, IfOk, OnOk};
 ghost use Rattle.odb_lex.specs.Written.{Appends};
 ghost use Rattle.odb_model.specs.Print.{head_text, line_of, row_line, reply_text};
 ghost use Rattle.odb_reply.specs.Telling.{TellsAlone};
 ghost use Rattle.odb_reply.specs.Unbroken.{IsUnbrokenRow, IsTellable};
 
 use crate::ReplyError;
+use crate::state::{phase_name, put_state};
 use crate::values::put_values;
-use odb_model::{Head, Reply};
+use odb_model::{CopyPhase, Head, Reply};
 use odb_values::{Bytes, Frozen, Values};
 use std::alloc::{AllocError, Global};
 
@@ -40,6 +41,29 @@ fn put_reply(out: &mut String, head: Head, reply: &Reply) -> Result<(), AllocErr
         Reply::Committed(number) => put_number_line(out, head, "COMMITTED ", *number),
         Reply::Ended(number) => put_number_line(out, head, "ENDED ", *number),
         Reply::InDoubt(number) => put_number_line(out, head, "INDOUBT ", *number),
+        Reply::Bodies { file, number } => {
+            put_two_numbers(out, head, "BODIES ", u64::from(*file), *number)
+        }
+        Reply::Gates { file, number } => {
+            put_two_numbers(out, head, "GATES ", u64::from(*file), *number)
+        }
+        Reply::Mark { file, number } => {
+            put_two_numbers(out, head, "MARK ", u64::from(*file), *number)
+        }
+        Reply::Logged(number) => put_number_line(out, head, "LOGGED ", *number),
+        Reply::Turned { side, first } => {
+            put_two_numbers(out, head, "TURNED ", u64::from(*side), *first)
+        }
+        Reply::Cleaned => put_line(out, head, "CLEANED"),
+        Reply::Copying { file, left } => {
+            put_two_numbers(out, head, "COPYING ", u64::from(*file), *left)
+        }
+        Reply::Copied { file, mark } => {
+            put_two_numbers(out, head, "COPIED ", u64::from(*file), *mark)
+        }
+        Reply::LogFirst(number) => put_number_line(out, head, "LOGFIRST ", *number),
+        Reply::Opened(number) => put_number_line(out, head, "OPENED ", *number),
+        Reply::State(state) => put_state(out, head, state),
         Reply::Character(at) => put_number_line(out, head, "REFUSED CHARACTER ", *at),
         Reply::Text(at) => put_number_line(out, head, "REFUSED TEXT ", *at),
         Reply::Number(at) => put_number_line(out, head, "REFUSED NUMBER ", *at),
@@ -55,6 +79,9 @@ fn put_reply(out: &mut String, head: Head, reply: &Reply) -> Result<(), AllocErr
         Reply::NoBank => put_line(out, head, "REFUSED NOBANK"),
         Reply::NameTaken => put_line(out, head, "REFUSED NAMETAKEN"),
         Reply::NotEmpty => put_line(out, head, "REFUSED NOTEMPTY"),
+        Reply::NoCopyLeft => put_line(out, head, "REFUSED NOCOPYLEFT"),
+        Reply::NoShadow => put_line(out, head, "REFUSED NOSHADOW"),
+        Reply::NoBackup => put_line(out, head, "REFUSED NOBACKUP"),
         Reply::NoNumberLeft => put_line(out, head, "REFUSED NONUMBERLEFT"),
         Reply::Fixed => put_line(out, head, "REFUSED FIXED"),
         Reply::NoColumn => put_line(out, head, "REFUSED NOCOLUMN"),
@@ -69,11 +96,29 @@ fn put_reply(out: &mut String, head: Head, reply: &Reply) -> Result<(), AllocErr
         Reply::TooManyWrites => put_line(out, head, "REFUSED TOOMANYWRITES"),
         Reply::Overflow => put_line(out, head, "REFUSED OVERFLOW"),
         Reply::Halted(number) => put_number_line(out, head, "REFUSED HALTED ", *number),
-        Reply::Aged { oldest, start } => put_aged_line(out, head, *oldest, *start),
+        Reply::Aged { oldest, start } => put_two_numbers(
+            out,
+            head,
+            "REFUSED AGED ",
+            *oldest,
+            *start,
+        ),
         Reply::Conflict(number) => put_number_line(out, head, "REFUSED CONFLICT ", *number),
         Reply::HistoryFull => put_line(out, head, "REFUSED HISTORYFULL"),
-        Reply::Full { need, room } => put_full_line(out, head, *need, *room),
+        Reply::Full { need, room } => put_two_numbers(out, head, "REFUSED FULL ", *need, *room),
         Reply::Fault(file) => put_number_line(out, head, "REFUSED FAULT ", u64::from(*file)),
+        Reply::NotClean => put_line(out, head, "REFUSED NOTCLEAN"),
+        Reply::Held { mark, last } => put_two_numbers(out, head, "REFUSED HELD ", *mark, *last),
+        Reply::LogFull { need, room } => {
+            put_two_numbers(out, head, "REFUSED LOGFULL ", *need, *room)
+        }
+        Reply::Needed(mark) => put_number_line(out, head, "REFUSED NEEDED ", *mark),
+        Reply::NotHeld { mark, first } => {
+            put_two_numbers(out, head, "REFUSED NOTHELD ", *mark, *first)
+        }
+        Reply::Phase { file, name } => put_phase(out, head, *file, *name),
+        Reply::NoFile(file) => put_number_line(out, head, "REFUSED NOFILE ", u64::from(*file)),
+        Reply::Limit(file) => put_number_line(out, head, "REFUSED LIMIT ", u64::from(*file)),
         Reply::Memory => put_line(out, head, "REFUSED MEMORY"),
     }
 }
@@ -99,36 +144,50 @@ fn put_row(out: &mut String, head: Head, row: &Values) -> Result<(), AllocError>
     out.push_str("\n")
 }
 
-fn put_number_line(out: &mut String, head: Head, words: &str, number: u64) -> Result<(), AllocError>
+pub(crate) fn put_number_line(
+    out: &mut String,
+    head: Head,
+    words: &str,
+    number: u64,
+) -> Result<(), AllocError>
     ensures { Appends result out.old out.new (line_of head (words.now ++ decimal number)) }
 {
     put_head(out, head)?;
     writeln!(out, " {words}{number}")
 }
 
-/// How many bytes a record needs, and how many are left.
-fn put_aged_line(out: &mut String, head: Head, oldest: u64, start: u64) -> Result<(), AllocError>
-    ensures { Appends result out.old out.new (reply_text head (Reply.Aged oldest start)) }
+/// Words, and two numbers behind them.
+pub(crate) fn put_two_numbers(
+    out: &mut String,
+    head: Head,
+    words: &str,
+    first: u64,
+    second: u64,
+) -> Result<(), AllocError>
+    ensures { Appends result out.old out.new (line_of head
+        (words.now ++ decimal first ++ codes " " ++ decimal second)) }
 {
     put_head(out, head)?;
-    writeln!(out, " REFUSED AGED {oldest} {start}")
+    writeln!(out, " {words}{first} {second}")
 }
 
-fn put_full_line(out: &mut String, head: Head, need: u64, room: u64) -> Result<(), AllocError>
-    ensures { Appends result out.old out.new (reply_text head (Reply.Full need room)) }
+/// What a copy, or LOGDB where the file is 1, is at.
+fn put_phase(out: &mut String, head: Head, file: u32, name: CopyPhase) -> Result<(), AllocError>
+    ensures { Appends result out.old out.new (reply_text head (Reply.Phase file name)) }
 {
+    let name = phase_name(name);
     put_head(out, head)?;
-    writeln!(out, " REFUSED FULL {need} {room}")
+    writeln!(out, " REFUSED PHASE {file} {name}")
 }
 
-fn put_line(out: &mut String, head: Head, words: &str) -> Result<(), AllocError>
+pub(crate) fn put_line(out: &mut String, head: Head, words: &str) -> Result<(), AllocError>
     ensures { Appends result out.old out.new (line_of head words.now) }
 {
     put_head(out, head)?;
     writeln!(out, " {words}")
 }
 
-fn put_head(out: &mut String, head: Head) -> Result<(), AllocError>
+pub(crate) fn put_head(out: &mut String, head: Head) -> Result<(), AllocError>
     ensures { Appends result out.old out.new (head_text head) }
 {
     match head {

@@ -20,6 +20,7 @@ use Rattle.odb_model.specs.State.{State, IsHistory, after_writes, replay}
 use Rattle.odb_model.specs.Meaning.{Meaning}
 use Rattle.odb_model.specs.Definitions.{IsSpelled, Planned, Refused, Plans, planned}
 use Rattle.odb_model.specs.Script.{IsSession}
+use Rattle.odb_model.specs.Readings.{nothing_told}
 use Rattle.odb_model.specs.Book.{Seen, ends_transaction}
 use Rattle.odb_model.specs.Machine.{Machine, book_of, Step}
 use Rattle.odb_model.specs.Storable.{HasKeys}
@@ -265,12 +266,14 @@ abbrev pub is_in_doubt : Reply → Bool
 is_in_doubt (InDoubt k) = true
 is_in_doubt reply = false
 
--- what a reply tells of the step: a fault before the record's gate was written, or from then on
+-- What a reply tells of the step: a fault before the record's gate was written, or from then on. No
+-- line is built yet whose step reads a file
 abbrev pub told_by : Reply → Seen
 told_by reply = record {
   rose = tells_of_fault reply;
   rose_before_gate = is_fault reply;
   rose_at_gate = is_in_doubt reply;
+  reads = nothing_told;
 }
 
 -- what was seen in a step has its causes: a count rose there only where `rose` tells so

@@ -5,7 +5,7 @@ use Rattle.odb_device.specs.Images.{EachImage}
 use Rattle.odb_device.specs.Calls.{Keeps}
 use Rattle.odb_device.specs.Moments.{WritesWithin}
 use Rattle.odb_model.specs.declared.status.Status.{Status}
-use Rattle.odb_model.specs.declared.status.Status.TheVariants.{Done, Usage, ReadFault, WriteFault, FileFault, NoDatabase, Exists, Damaged, NotHeld, InputTooLong, NoMemory}
+use Rattle.odb_model.specs.declared.status.Status.TheVariants.{Done, Usage, ReadFault, WriteFault, FileFault, NoDatabase, Exists, Damaged, NotHeld, InputTooLong, NoMemory, NotACopy, Unfinished}
 use Rattle.odb_pair.specs.Places.{Opened, no_open_place, opened}
 use Rattle.odb_transdb.specs.Header.{new_header}
 use Rattle.odb_transdb.specs.Opened.{Holds}
@@ -24,6 +24,8 @@ IsCreationOf (Damaged file at) pair = ⊥
 IsCreationOf (NotHeld bank mark first) pair = ⊥
 IsCreationOf InputTooLong pair = ⊥
 IsCreationOf NoMemory pair = ⊥
+IsCreationOf (NotACopy bank file) pair = ⊥
+IsCreationOf (Unfinished file) pair = ⊥
 
 -- Done: every image of file 0 is a TRANSDB without entries, with sides of 16,384 KiB. Exists: the
 -- bytes are as before, and on the disk

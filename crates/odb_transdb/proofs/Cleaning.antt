@@ -16,7 +16,8 @@ use Rattle.odb_model.specs.declared.side.OtherSide.TheVariants.{Live, Dirty, Cle
 use Rattle.odb_transdb.specs.declared.header.Header.{Header}
 use Rattle.odb_transdb.specs.Header.{header_image, header_of, is_header, side_start, side_end, first_on, active_first, first_by, first_held, other_of, with_other}
 use Rattle.odb_transdb.specs.Opened.{side_list, side_entries, entries_from, entries_in}
-use Rattle.odb_transdb.specs.Standing.{Db, IsOfSide, IsLiveBy, IsDb, Stands}
+use Rattle.odb_transdb.specs.Kept.{AreKept}
+use Rattle.odb_transdb.specs.Standing.{Db, IsOfSide, IsLiveBy, IsDb, HasPlaces, Stands}
 use Rattle.odb_transdb.specs.Answers.{HoldsAll}
 use Rattle.odb_transdb.specs.Turning.{IsBeside, HoldsOneOf, HoldsBy, StandsEither, StandsSince, HasZeroOther, IsOfClean, IsOfSettling}
 use Rattle.odb_transdb.proofs.Headers.{lawful_is, header_again}
@@ -24,7 +25,8 @@ use Rattle.odb_transdb.proofs.Opened.{IsSound, read_by, Has}
 use Rattle.odb_transdb.proofs.Sides.{IsInside, beside, other_sides, other_list, header_beside}
 use Rattle.odb_transdb.proofs.Standing.{live_side, log_stays, pair_stays, stands_has, stands_pair, stands_log, stands_settled, has_all, entries_same, stands_made}
 use Rattle.odb_transdb.proofs.Contents.{dirty_content, clean_content, end_of_end, first_same, lawful_other}
-use Rattle.odb_transdb.proofs.Heading.{since_each, since_log, since_live, since_made, put_run, put_log, put_done, put_left, Given}
+use Rattle.odb_transdb.proofs.Kept.{kept_stays, if_told_then}
+use Rattle.odb_transdb.proofs.Heading.{since_each, since_log, since_live, since_made, put_places, put_run, put_log, put_done, put_left, Given}
 use Rattle.odb_transdb.proofs.Settling.{settled_stands}
 use Rattle.odb_transdb.proofs.Turning.{is_lawful, own_content, by_content}
 
@@ -69,6 +71,15 @@ module _ (db : Db) (is : IsDb db) (all : List Entry) (value : List ℕ) (w now :
       of_live None side stands = tt
       of_live (Some log) side stands = put_log db all value w now is.file runs h log (other_of h) side reads stands
 
+  -- where nothing is Live the places kept are those of the active side
+  active_places : (made : Db) → made.active ≡ db.active → made.places ≡ db.places → made.live ≡ None → IfSome (file_of 0 now) (λ g. HasPlaces made (Some g))
+  active_places made same kept none =
+      if_told_then (λ g. HasPlaces db (Some g)) (λ g. HasPlaces made (Some g)) (file_of 0 now)
+      (λ g has. (
+        subst (λ (l : Log). AreKept l made.places (Some g)) (sym same) (subst (λ (p : List ℕ). AreKept db.active p (Some g)) (sym kept) has.0),
+        subst (λ (l : Option Log). IfSome l (λ log. AreKept log made.live_places (Some g))) (sym none) tt,
+      )) (put_places db all value w now is.file runs h is reads since)
+
   -- the header with a Dirty other side is put
   module _ (value_is : value ≡ header_image (with_other Dirty h)) (other : h.other ≢ Clean) where
     abbrev d : Header
@@ -91,8 +102,8 @@ module _ (db : Db) (is : IsDb db) (all : List Entry) (value : List ℕ) (w now :
     pub dirty_run : Runs 0 (EachImage (HoldsOneOf (IsOfClean db) n all)) w now
     dirty_run = put_run db all value w now is.file runs d (IsOfClean db) (λ k left beside. inl left) (λ k found. inr (inl (image_of d k value d_lawful value_is found))) dirty_given
 
-    abbrev pub dirty_db : Db
-    dirty_db = record { header = d; pair = pair; active = db.active; live = None }
+    abbrev pub dirty_db : List ℕ → Db
+    dirty_db q = record { header = d; pair = pair; active = db.active; live = None; places = db.places; live_places = q }
 
     beside_dirty : (x : Header) → IsBeside n h x → IsBeside n d x
     beside_dirty x (inl same) = of_state h.other refl
@@ -104,19 +115,20 @@ module _ (db : Db) (is : IsDb db) (all : List Entry) (value : List ℕ) (w now :
     beside_dirty x (inr (inl begun)) = absurd (other begun.0)
     beside_dirty x (inr (inr dirty)) = inr (inr (refl, dirty.1))
 
-    pub dirty_left : LeavesUnsettled value db.pair pair → StandsSince dirty_db all (file_of 0 now)
-    dirty_left left =
-        since_made dirty_db all (file_of 0 now) active_log tt
-        (put_left db all value w now is.file runs d dirty_db dirty_given stands refl left.value left.tried
+    pub dirty_left : (q : List ℕ) → LeavesUnsettled value db.pair pair → StandsSince (dirty_db q) all (file_of 0 now)
+    dirty_left q left =
+        since_made (dirty_db q) all (file_of 0 now) active_log tt
+        (put_left db all value w now is.file runs d (dirty_db q) dirty_given stands refl left.value left.tried
         (λ before here. subst (λ (v : List ℕ). HoldsBy d n all v before) value_is here.1) (λ x was beside. beside_dirty x beside) (λ x found. inl (image_of d x value d_lawful value_is found)))
+        (active_places (dirty_db q) refl refl refl)
 
-    pub dirty_done : pair.value ≡ value → pair.tried ≡ value → StandsSince dirty_db all (file_of 0 now)
-    dirty_done kept tried = since_made dirty_db all (file_of 0 now) active_log tt (put_done db all value w now is.file runs d dirty_db dirty_given stands refl refl (sym value_is) kept tried)
+    pub dirty_done : (q : List ℕ) → pair.value ≡ value → pair.tried ≡ value → StandsSince (dirty_db q) all (file_of 0 now)
+    dirty_done q kept tried = since_made (dirty_db q) all (file_of 0 now) active_log tt (put_done db all value w now is.file runs d (dirty_db q) dirty_given stands refl refl (sym value_is) kept tried) (active_places (dirty_db q) refl refl refl)
 
-    pub dirty_stands : pair.settled ≡ true → pair.value ≡ value → pair.tried ≡ value → EachImage (PairHolds value) (file_of 0 now) → Stands dirty_db (file_of 0 now)
-    dirty_stands settled kept tried holds =
-        settled_stands dirty_db all (file_of 0 now) reads (record { lawful = d_lawful; settled = settled; value = kept ∙ value_is; tried = tried ∙ sym kept })
-        (subst (λ (v : List ℕ). EachImage (PairHolds v) (file_of 0 now)) (sym kept) holds) (dirty_done kept tried)
+    pub dirty_stands : (q : List ℕ) → pair.settled ≡ true → pair.value ≡ value → pair.tried ≡ value → EachImage (PairHolds value) (file_of 0 now) → Stands (dirty_db q) (file_of 0 now)
+    dirty_stands q settled kept tried holds =
+        settled_stands (dirty_db q) all (file_of 0 now) reads (record { lawful = d_lawful; settled = settled; value = kept ∙ value_is; tried = tried ∙ sym kept })
+        (subst (λ (v : List ℕ). EachImage (PairHolds v) (file_of 0 now)) (sym kept) holds) (dirty_done q kept tried)
 
   -- and then the one with a Clean one, where that is zeros
   module _ (value_is : value ≡ header_image (with_other Clean h)) (dirty : h.other ≡ Dirty) (zeros : EachImage (HasZeroOther h) (file_of 0 w)) where
@@ -146,10 +158,10 @@ module _ (db : Db) (is : IsDb db) (all : List Entry) (value : List ℕ) (w now :
     clean_run = put_run db all value w now is.file runs k (IsOfClean db) (λ x left beside. inl left) (λ x found. inr (inr (image_of k x value k_lawful value_is found))) clean_given
 
     abbrev pub clean_db : Db
-    clean_db = record { header = k; pair = pair; active = db.active; live = None }
+    clean_db = record { header = k; pair = pair; active = db.active; live = None; places = db.places; live_places = db.live_places }
 
     abbrev pub kept_db : Db
-    kept_db = record { header = h; pair = pair; active = db.active; live = db.live }
+    kept_db = record { header = h; pair = pair; active = db.active; live = db.live; places = db.places; live_places = db.live_places }
 
     pub no_live : db.live ≡ None
     no_live = none_live h h.other db.live db.active (λ (live : h.other ≡ Live). let wrong : Dirty ≡ Live = sym dirty ∙ live in absurd (cc wrong)) is.live
@@ -159,9 +171,11 @@ module _ (db : Db) (is : IsDb db) (all : List Entry) (value : List ℕ) (w now :
         since_made kept_db all (file_of 0 now) active_log (subst (λ (l : Option Log). IfSome l (λ log. LogStands log (file_of 0 now))) (sym no_live) tt)
         (put_left db all value w now is.file runs k kept_db clean_given stands refl left.value left.tried (λ before here. here.0.own) (λ x was beside. beside)
         (λ x found. inr (inr (dirty, inr (image_of k x value k_lawful value_is found)))))
+        (put_places db all value w now is.file runs h is reads since)
 
     pub clean_done : pair.value ≡ value → pair.tried ≡ value → StandsSince clean_db all (file_of 0 now)
     clean_done kept tried = since_made clean_db all (file_of 0 now) active_log tt (put_done db all value w now is.file runs k clean_db clean_given stands refl refl (sym value_is) kept tried)
+        (active_places clean_db refl refl refl)
 
     pub clean_stands : pair.settled ≡ true → pair.value ≡ value → pair.tried ≡ value → EachImage (PairHolds value) (file_of 0 now) → Stands clean_db (file_of 0 now)
     clean_stands settled kept tried holds =
@@ -179,16 +193,18 @@ module _ (db : Db) (is : IsDb db) (all : List Entry) (value : List ℕ) (w now :
     same_run = put_run db all value w now is.file runs h (IsOfSettling db) (λ x left beside. inl left) (λ x found. inr (image_of h x value is.lawful value_is found)) same_given
 
     abbrev pub same_db : Db
-    same_db = record { header = h; pair = pair; active = db.active; live = db.live }
+    same_db = record { header = h; pair = pair; active = db.active; live = db.live; places = db.places; live_places = db.live_places }
 
     pub same_left : LeavesUnsettled value db.pair pair → StandsSince same_db all (file_of 0 now)
     same_left left =
         since_made same_db all (file_of 0 now) active_log live_now
         (put_left db all value w now is.file runs h same_db same_given stands refl left.value left.tried (λ before here. here.0.own) (λ x was beside. beside)
         (λ x found. inl (image_of h x value is.lawful value_is found)))
+        (put_places db all value w now is.file runs h is reads since)
 
     pub same_done : pair.value ≡ value → pair.tried ≡ value → StandsSince same_db all (file_of 0 now)
     same_done kept tried = since_made same_db all (file_of 0 now) active_log live_now (put_done db all value w now is.file runs h same_db same_given stands refl refl (sym value_is) kept tried)
+        (put_places db all value w now is.file runs h is reads since)
 
     pub same_stands : pair.settled ≡ true → pair.value ≡ value → pair.tried ≡ value → EachImage (PairHolds value) (file_of 0 now) → Stands same_db (file_of 0 now)
     same_stands settled kept tried holds =
@@ -253,9 +269,18 @@ module _ (db : Db) (is : IsDb db) (dirty : db.header.other ≡ Dirty) where
           no_live : db.live ≡ None
           no_live = none_live db.header db.header.other db.live db.active (λ (live : db.header.other ≡ Live). let wrong : Dirty ≡ Live = sym dirty ∙ live in absurd (cc wrong)) is.live
 
+          zeroed_places : (o p : Option File) → Stands db o → TornFrom from size o p → ReadsImage p → IfSome p (λ g. HasPlaces db (Some g))
+          zeroed_places o None stands torn reads = tt
+          zeroed_places None (Some g) stands torn reads = absurd (cc torn)
+          zeroed_places (Some f) (Some g) stands torn reads = (
+            kept_stays db.active db.places from size (Some f) (Some g) apart stands.0 torn reads stands.5.0,
+            subst (λ (l : Option Log). IfSome l (λ log. AreKept log db.live_places (Some g))) (sym no_live) tt,
+          )
+
           of_file : (o : Option File) → Stands db o → TornFrom from size o (file_of 0 now) → Stands db (file_of 0 now)
           of_file None stands torn = subst (Stands db) (sym torn) stands
           of_file (Some f) stands torn =
               stands_made db (entries_in (Some f)) (file_of 0 now) reads (log_stays db.active from size (Some f) (file_of 0 now) apart (stands_log db (Some f) stands) torn reads)
               (subst (λ (l : Option Log). IfSome l (λ log. LogStands log (file_of 0 now))) (sym no_live) tt) (pair_stays db.pair from size (Some f) (file_of 0 now) (omega arith) (stands_pair db (Some f) stands) torn)
               (each_has (Some f) (file_of 0 now) stands torn) stands.3 (stands_settled db (Some f) stands)
+              (zeroed_places (Some f) (file_of 0 now) stands torn reads)

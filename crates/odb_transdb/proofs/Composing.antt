@@ -18,9 +18,8 @@ use Rattle.odb_transdb.specs.declared.error.TransdbError.TheVariants.{Full}
 use Rattle.odb_transdb.specs.Header.{with_other}
 use Rattle.odb_transdb.specs.Opened.{Holds, entries_in}
 use Rattle.odb_transdb.specs.Standing.{Db, IsSettled, Stands}
-use Rattle.odb_transdb.specs.Answers.{IsForceAnswer}
 use Rattle.odb_transdb.specs.Worlds.{KeepsEntries, Forces}
-use Rattle.odb_transdb.specs.Turning.{IsEnd, HoldsEnd, HoldsOneOf, StandsEither, StandsSince, EndsHeld, IsOfClean, IsOfSettling, RunsSettling, HasOther, SameSides}
+use Rattle.odb_transdb.specs.Turning.{IsEnd, HoldsEnd, HoldsOneOf, StandsEither, StandsSince, EndsHeld, IsOfClean, IsOfSettling, RunsSettling, HasOther}
 use Rattle.odb_transdb.proofs.Opened.{holds_has}
 use Rattle.odb_transdb.proofs.Forcing.{still_holds}
 use Rattle.odb_transdb.proofs.Heading.{by_holds, since_each, since_pair, one_left}
@@ -81,13 +80,6 @@ module _ (db d : Db) (dirty : HasOther Dirty db d) (all : List Entry) where
       of_header k (inr (inl same)) = inr (inl (same ∙ ap (with_other Dirty) dirty.header))
       of_header k (inr (inr same)) = inr (inr (same ∙ ap (with_other Clean) dirty.header))
 
-  -- what is Clean in the end
-  pub then_clean : (c : Db) → HasOther Clean d c → HasOther Clean db c
-  then_clean c clean = record { header = clean.header ∙ ap (with_other Clean) dirty.header; active = clean.active ∙ dirty.active; live = clean.live }
-
-  pub then_dirty : (c : Db) → SameSides d c → HasOther Dirty db c
-  then_dirty c same = record { header = same.header ∙ dirty.header; active = same.active ∙ dirty.active; live = same.live ∙ dirty.live }
-
 -- what is forced from where the pair was settled already
 pub forces_same : (payload : List ℕ) (result : Result ℕ TransdbError) (old mid new : Db) (w m now : World) → mid ≡ old → m ≡ w → Forces payload result mid new m now → Forces payload result old new w now
 forces_same payload result old mid new w m now same here forces =
@@ -102,10 +94,6 @@ forces_full payload need room db w stands = record {
   doubt = λ number is. absurd (cc is);
   only = begins 0 (TornFrom db.active.place (db.active.end - db.active.place) (file_of 0 w)) w (stays_from db.active.place (db.active.end - db.active.place) (file_of 0 w) (file_of 0 w) refl);
 }
-
--- the answer is as of the sides before
-pub answer_same : (n : ℕ) (old mid : Db) (result : Result ℕ TransdbError) → SameSides old mid → IsForceAnswer n mid result → IsForceAnswer n old result
-answer_same n old mid result same answer = subst (λ (l : Log). IsForceAnswer n (record { header = mid.header; pair = mid.pair; active = l; live = mid.live }) result) same.active answer
 
 -- whatever a call answered
 pub by_result : {T E : Type 0} (A B C : Type 0) (r : Result T E) → (A → C) → (B → C) → OnOk r A → OnErr r B → C
@@ -128,7 +116,7 @@ module _ (db : Db) (all : List Entry) (w : World) (settled : IsSettled db) (hold
     run = begins 0 (EachImage (HoldsOneOf (IsOfSettling db) db.active.next all)) w each_holds;
     only = begins 0 (TornFrom 0 1024 (file_of 0 w)) w (stays_from 0 1024 (file_of 0 w) (file_of 0 w) refl);
     stands = since;
-    sides = record { header = refl; active = refl; live = refl };
+    sides = record { header = refl; active = refl; live = refl; places = refl; live_places = refl };
   }
 
   pub still_stands : ReadsImage (file_of 0 w) → Stands db (file_of 0 w)

@@ -16,7 +16,7 @@ use Rattle.odb_transdb.specs.declared.error.TransdbError.{TransdbError}
 use Rattle.odb_transdb.specs.declared.error.TransdbError.TheVariants.{NoDatabase, Damaged, Full, FaultBefore, InDoubt, NotClean, Held, Fault, NoMemory}
 use Rattle.odb_transdb.specs.Header.{side_start, first_on, active_first, other_of, first_by, first_held}
 use Rattle.odb_transdb.specs.Opened.{Opened, holding, side_list, side_entries, joined, with_entries, first_other, with_sides, with_header, opened, entries_of, entries_in}
-use Rattle.odb_transdb.specs.Standing.{Db, IsOfSide, IsLiveBy, IsSettled, Stands}
+use Rattle.odb_transdb.specs.Standing.{Db, IsOfSide, IsLiveBy, IsSettled, HasPlaces, Stands}
 use Rattle.odb_transdb.specs.Answers.{IsAnswerBy, IsOpenAnswer}
 use Rattle.odb_transdb.specs.Walking.{live_read, sides_read, IsReadOf}
 use Rattle.odb_transdb.specs.Opening.{IsUnless, IsChecked}
@@ -103,22 +103,22 @@ module _ (pair : PairState) (h : Header) (live : Option Log) (active : Log) (o n
   abbrev pub ReadNow : Option File → Type 0
   ReadNow now = IfSome now (λ g. (all : List Entry) × (sides_read h g.bytes ≡ Ok all))
 
-  abbrev pub made : Db
-  made = record { header = h; pair = pair; active = active; live = live }
+  abbrev pub made : List ℕ → List ℕ → Db
+  made places live_places = record { header = h; pair = pair; active = active; live = live; places = places; live_places = live_places }
 
-  pub stands_sides : IsSettled made → ReadNow now → Stands made now
-  stands_sides settled read = of_files o now are read
+  pub stands_sides : (p q : List ℕ) → IsSettled (made p q) → ReadNow now → IfSome now (λ g. HasPlaces (made p q) (Some g)) → Stands (made p q) now
+  stands_sides p q settled read places = of_files o now are read places
     where
-      of_files : (o now : Option File) → AreOpen pair h live active o now → ReadNow now → Stands made now
-      of_files None now are read = subst (Stands made) (sym are.based) settled
-      of_files (Some f) None are read = settled
-      of_files (Some f) (Some g) are read =
+      of_files : (o now : Option File) → AreOpen pair h live active o now → ReadNow now → IfSome now (λ g. HasPlaces (made p q) (Some g)) → Stands (made p q) now
+      of_files None now are read places = subst (Stands (made p q)) (sym are.based) settled
+      of_files (Some f) None are read places = settled
+      of_files (Some f) (Some g) are read places =
           let holds = shows f g are ∙ ap (with_entries h) read.1 in
           let by_state = sym (sides_by h h.other g.bytes) ∙ read.1 in
-          stands_made made read.0 (Some g) are.reads are.stands are.lives
+          stands_made (made p q) read.0 (Some g) are.reads are.stands are.lives
           (each_weakens (IsBased pair h (opened f.bytes)) (PairStandsFor pair) (Some g) (λ image one. one.pair_is) are.based)
           (each_weakens (IsBased pair h (opened f.bytes)) (Has h read.0) (Some g) (λ image one. holds_has h read.0 image (one.opens ∙ holds)) are.based)
-          (held_count h active g are.side are.stands are.reads h.other live read.0 are.by are.lives by_state) settled
+          (held_count h active g are.side are.stands are.reads h.other live read.0 are.by are.lives by_state) settled places
 
   pub entries_sides : entries_in now ≡ entries_in o
   entries_sides = of_files o now are

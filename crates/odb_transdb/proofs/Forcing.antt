@@ -17,14 +17,16 @@ use Rattle.odb_model.specs.declared.entry.Entry.{Entry}
 use Rattle.odb_transdb.specs.declared.header.Header.{Header}
 use Rattle.odb_transdb.specs.Header.{active_first}
 use Rattle.odb_transdb.specs.Opened.{side_list, Holds, entries_in}
-use Rattle.odb_transdb.specs.Standing.{Db, IsDb, Stands, IsSettledIn}
+use Rattle.odb_transdb.specs.Kept.{AreKept}
+use Rattle.odb_transdb.specs.Standing.{Db, IsDb, HasPlaces, Stands, IsSettledIn}
 use Rattle.odb_transdb.specs.Answers.{HoldsAll, HoldsAllOrMore}
 use Rattle.odb_transdb.specs.Steps.{IsWritten}
 use Rattle.odb_transdb.specs.Worlds.{KeepsOrAddsEntry, WritesBehindGate, RewritesTail}
 use Rattle.odb_transdb.specs.Leaving.{MovesOn}
 use Rattle.odb_transdb.proofs.Opened.{Has, has_holds}
 use Rattle.odb_transdb.proofs.Sides.{IsInside, has_more}
-use Rattle.odb_transdb.proofs.Standing.{log_list, stands_has, stands_pair, stands_log, stands_live, has_all, entries_read, entries_same, stands_made, pair_stays, adds_torn, with_active, stands_settled, settled_with, is_db_with, side_with, region_of, low_active, live_stays, keeps_torn, keeps_has, adds_has, keeps_stands}
+use Rattle.odb_transdb.proofs.Kept.{steps_more, steps_same}
+use Rattle.odb_transdb.proofs.Standing.{log_list, stands_has, stands_pair, stands_log, stands_live, has_all, entries_read, entries_same, stands_made, pair_stays, adds_torn, with_active, stands_settled, settled_with, is_db_with, side_with, region_of, low_active, live_kept, live_stays, keeps_torn, keeps_has, adds_has, keeps_stands}
 
 -- where there is room for a record it lies inside the active side
 abbrev pub HasRoom : Db → Type 0
@@ -49,7 +51,7 @@ module _ (db : Db) (is : IsDb db) (room : HasRoom db) where
   behind_has (Some f) p stands reads keeps =
       keeps_has db is (db.active.place + 1) (db.active.end - (db.active.place + 1)) (inside_behind db is room (place_inside db f stands reads)) (entries_in (Some f)) (Some f) p keeps (stands_has db (Some f) stands)
 
-  behind_stands : (log : Log) (o p : Option File) → Stands db o → ReadsImage o → KeepsBehind db.active o p → is_some p ≡ is_some o → ReadsImage p → LogStands log p → log.next ≡ db.active.next → Stands (with_active db log) p
+  behind_stands : (log : Log) (o p : Option File) → Stands db o → ReadsImage o → KeepsBehind db.active o p → is_some p ≡ is_some o → ReadsImage p → LogStands log p → SameList db.active log → Stands (with_active db log) p
   behind_stands log None p stands before keeps told reads active same = subst (Stands (with_active db log)) (sym keeps) (settled_with db log stands)
   behind_stands log (Some f) p stands before keeps told reads active same =
       keeps_stands db is (db.active.place + 1) (db.active.end - (db.active.place + 1)) (inside_behind db is room (place_inside db f stands before)) log (Some f) p stands keeps told reads active same
@@ -66,7 +68,7 @@ module _ (db : Db) (is : IsDb db) (room : HasRoom db) where
           let told = run.only.told now.time run.only.later (omega arith) in
           let keeps = run_end 0 (KeepsBehind db.active (file_of 0 w)) w now run in
           record {
-            stands = behind_stands log (file_of 0 w) (file_of 0 now) stands before keeps told reads active same.next;
+            stands = behind_stands log (file_of 0 w) (file_of 0 now) stands before keeps told reads active same;
             entries = entries_same db.header (file_of 0 w) (file_of 0 now) told reads (behind_has (file_of 0 w) (file_of 0 now) stands before keeps);
             header = refl;
             next = same.next;
@@ -254,18 +256,30 @@ module _ (db : Db) (is : IsDb db) (room : HasRoom db) (w now : World) (stands : 
         of_now None reads has = tt
         of_now (Some g) reads has = entries_read db.header (entries_in (file_of 0 w) ++ e ∷ []) g reads has
 
+    -- the places kept are those of a list with one more
+    opened_places : (o p : Option File) → Stands db o → IfSome p (λ g. IfSome db.live (λ l. AreKept l db.live_places (Some g))) → IfSome p (λ g. log_of log.start log.end log.first g.bytes ≡ list_of db.active o ++ body_of db.active o ∷ [])
+        → TornFrom db.active.place 1 o p → IfSome p (λ g. HasPlaces (with_active db log) (Some g))
+    opened_places o None stands live list torn = tt
+    opened_places None (Some g) stands live list torn = absurd (cc torn)
+    opened_places (Some f) (Some g) stands live list torn =
+        let old = list_of db.active (Some f) in
+        let more = body_of db.active (Some f) ∷ [] in
+        (steps_same db.active.start log.start (old ++ more) (list_of log (Some g)) db.places same.start list (steps_more db.active.start old more db.places stands.5.0), live)
+
     pub gate_stands : Stands (with_active db log) (file_of 0 now)
-    gate_stands = of_old (file_of 0 w) stands before gate_torn gate_has
+    gate_stands = of_old (file_of 0 w) stands before gate_torn gate_has list
       where
-        of_old : (o : Option File) → Stands db o → ReadsImage o → TornFrom db.active.place 1 o (file_of 0 now) → EachImage (Has db.header (entries_in o ++ e ∷ [])) (file_of 0 now) → Stands (with_active db log) (file_of 0 now)
-        of_old None stands old_reads torn has = subst (Stands (with_active db log)) (sym torn) (settled_with db log stands)
-        of_old (Some f) stands old_reads torn has =
+        of_old : (o : Option File) → Stands db o → ReadsImage o → TornFrom db.active.place 1 o (file_of 0 now) → EachImage (Has db.header (entries_in o ++ e ∷ [])) (file_of 0 now)
+            → IfSome (file_of 0 now) (λ g. log_of log.start log.end log.first g.bytes ≡ list_of db.active o ++ body_of db.active o ∷ []) → Stands (with_active db log) (file_of 0 now)
+        of_old None stands old_reads torn has list = subst (Stands (with_active db log)) (sym torn) (settled_with db log stands)
+        of_old (Some f) stands old_reads torn has list =
             let inside = inside_gate db is room (place_inside db f stands old_reads) in
             let far : 1024 ≤ db.active.place = omega (arith, inside.low) in
             stands_made (with_active db log) (entries_in (Some f) ++ e ∷ []) (file_of 0 now) reads active
             (live_stays db is db.active.place 1 inside (Some f) (file_of 0 now) (stands_live db (Some f) stands) torn reads)
             (pair_stays db.pair db.active.place 1 (Some f) (file_of 0 now) far (stands_pair db (Some f) stands) torn) has
             (omega (arith, stands.3, next, length-append (entries_in (Some f)) (e ∷ []))) (settled_with db log (stands_settled db (Some f) stands))
+            (opened_places (Some f) (file_of 0 now) stands (live_kept db is db.active.place 1 inside (Some f) (file_of 0 now) (stands_live db (Some f) stands) torn reads stands.5.1) list torn)
 
 -- whatever it leaves, no other byte than the gate has changed
 pub opening_only : (db : Db) (w now : World) → IsDb db

@@ -21,7 +21,7 @@ module _ (db : Db) (all : List Entry) (lawful : IsTrue (is_header db.header)) wh
   pub since_read : (f : File) (since : StandsSince db all (Some f)) (reads : ReadsImage (Some f)) → sides_read db.header f.bytes ≡ Ok (own_of f since reads).entries
   since_read f since reads = sides_by db.header db.header.other f.bytes ∙ (own_of f since reads).content.read
 
-  last_of : (from : ℕ) (entries : List Entry) → first_held db.header ≤ from → IsEnd db.header db.active.next all entries → AreLast from db.active.next all (drop (from - first_held db.header) entries)
+  pub last_of : (from : ℕ) (entries : List Entry) → first_held db.header ≤ from → IsEnd db.header db.active.next all entries → AreLast from db.active.next all (drop (from - first_held db.header) entries)
   last_of from entries low end =
       let k : ℕ = from - first_held db.header in
       record {

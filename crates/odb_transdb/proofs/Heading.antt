@@ -11,11 +11,13 @@ use Rattle.odb_pair.specs.Standing.{StandsFor as PairStandsFor, HoldsKeptOr, Run
 use Rattle.odb_reclog.specs.Standing.{Log, Stands as LogStands}
 use Rattle.odb_model.specs.declared.entry.Entry.{Entry}
 use Rattle.odb_transdb.specs.declared.header.Header.{Header}
-use Rattle.odb_transdb.specs.Header.{header_image, header_of}
-use Rattle.odb_transdb.specs.Standing.{Db, IsOfSide, IsSettled}
+use Rattle.odb_transdb.specs.Header.{header_image, header_of, other_of}
+use Rattle.odb_transdb.specs.Kept.{AreKept}
+use Rattle.odb_transdb.specs.Standing.{Db, IsOfSide, IsDb, IsSettled, HasPlaces}
 use Rattle.odb_transdb.specs.Turning.{IsLeft, IsBeside, HoldsEnd, HoldsOneOf, HoldsBy, StandsEither, StandsSince}
 use Rattle.odb_transdb.proofs.Headers.{header_again}
-use Rattle.odb_transdb.proofs.Standing.{log_stays}
+use Rattle.odb_transdb.proofs.Kept.{kept_stays, if_told_then}
+use Rattle.odb_transdb.proofs.Standing.{log_stays, live_side}
 use Rattle.odb_transdb.proofs.Contents.{content_of, content_under, content_holds, content_front, low_of}
 
 -- writes of the pair leave what the bytes would hold under a value
@@ -73,9 +75,14 @@ since_live db all (Some f) since = since.1
 pub since_pair : (db : Db) (all : List Entry) (o : Option File) → StandsSince db all o → EachImage (PairStandsFor db.pair) o
 since_pair db all o since = each_weakens (StandsEither db all) (PairStandsFor db.pair) o (λ image one. one.pair) (since_each db all o since)
 
-pub since_made : (db : Db) (all : List Entry) (o : Option File) → LogStands db.active o → IfSome db.live (λ log. LogStands log o) → EachImage (StandsEither db all) o → StandsSince db all o
-since_made db all None active live each = tt
-since_made db all (Some f) active live each = (active, live, each)
+-- the places kept, where the file is told
+pub since_places : (db : Db) (all : List Entry) (o : Option File) → StandsSince db all o → IfSome o (λ f. HasPlaces db (Some f))
+since_places db all None since = tt
+since_places db all (Some f) since = since.3
+
+pub since_made : (db : Db) (all : List Entry) (o : Option File) → LogStands db.active o → IfSome db.live (λ log. LogStands log o) → EachImage (StandsEither db all) o → IfSome o (λ f. HasPlaces db (Some f)) → StandsSince db all o
+since_made db all None active live each places = tt
+since_made db all (Some f) active live each places = (active, live, each, places)
 
 -- a put of this value by the pair
 module _ (db : Db) (all : List Entry) (value : List ℕ) (w now : World) (file : db.pair.file ≡ 0) (runs : RunsPair db.pair (HoldsKeptOr db.pair value) w now) where
@@ -119,6 +126,30 @@ module _ (db : Db) (all : List Entry) (value : List ℕ) (w now : World) (file :
     -- the logs stand behind it
     pub put_log : (log : Log) (side : ℕ) → IsOfSide db.header side log → ReadsImage (file_of 0 now) → LogStands log (file_of 0 w) → LogStands log (file_of 0 now)
     put_log log side is reads stands = log_stays log 0 1024 (file_of 0 w) (file_of 0 now) (inl (omega (arith, is.start))) stands put_torn reads
+
+    -- and the places kept of them are as before
+    put_kept : (log : Log) (side : ℕ) (places : List ℕ) → IsOfSide db.header side log → ReadsImage (file_of 0 now) → LogStands log (file_of 0 w) → IfSome (file_of 0 w) (λ f. AreKept log places (Some f)) → IfSome (file_of 0 now) (λ g. AreKept log places (Some g))
+    put_kept log side places is reads stands kept = kept_stays log places 0 1024 (file_of 0 w) (file_of 0 now) (inl (omega (arith, is.start))) stands put_torn reads kept
+
+    pub put_places : IsDb db → ReadsImage (file_of 0 now) → StandsSince db all (file_of 0 w) → IfSome (file_of 0 now) (λ g. HasPlaces db (Some g))
+    put_places is reads since =
+        both (file_of 0 now)
+        (put_kept db.active db.header.active db.places is.active reads (since_log db all (file_of 0 w) since) (if_told_then (λ f. HasPlaces db (Some f)) (λ f. AreKept db.active db.places (Some f)) (file_of 0 w) (λ f has. has.0) (since_places db all (file_of 0 w) since)))
+        (live_part db.live (live_side db.header db.header.other db.live db.active is.live) (since_live db all (file_of 0 w) since)
+        (if_told_then (λ f. HasPlaces db (Some f)) (λ f. IfSome db.live (λ log. AreKept log db.live_places (Some f))) (file_of 0 w) (λ f has. has.1) (since_places db all (file_of 0 w) since)))
+      where
+        both : (p : Option File) → IfSome p (λ g. AreKept db.active db.places (Some g)) → IfSome p (λ g. IfSome db.live (λ log. AreKept log db.live_places (Some g))) → IfSome p (λ g. HasPlaces db (Some g))
+        both None active live = tt
+        both (Some g) active live = (active, live)
+
+        nothing : (p : Option File) → IfSome p (λ g. Unit {0})
+        nothing None = tt
+        nothing (Some g) = tt
+
+        live_part : (l : Option Log) → IfSome l (λ log. IsOfSide db.header (other_of db.header) log) → IfSome l (λ log. LogStands log (file_of 0 w)) → IfSome (file_of 0 w) (λ f. IfSome l (λ log. AreKept log db.live_places (Some f)))
+            → IfSome (file_of 0 now) (λ g. IfSome l (λ log. AreKept log db.live_places (Some g)))
+        live_part None side stands kept = nothing (file_of 0 now)
+        live_part (Some log) side stands kept = put_kept log (other_of db.header) db.live_places side reads stands kept
 
     -- and each image is one of the new state's, by what each value would give
     pub put_each : (made : Db) → EachImage Given (file_of 0 w) → EachImage (PairStandsFor made.pair) (file_of 0 now)

@@ -25,7 +25,7 @@ use Rattle.odb_transdb.proofs.Opened.{read_by}
 use Rattle.odb_transdb.proofs.Standing.{log_list, stands_has}
 use Rattle.odb_transdb.proofs.Walking.{numbered_then}
 
-drop_both : {A : Type 0} (k : ℕ) (a b : List A) → drop k (a ++ b) ≡ drop k a ++ drop (k - length a) b
+pub drop_both : {A : Type 0} (k : ℕ) (a b : List A) → drop k (a ++ b) ≡ drop k a ++ drop (k - length a) b
 drop_both {A} k a b = elim (cases_lt (length a) k) [
   | inr inside ↦
       let none : k - length a ≡ 0 = omega arith in

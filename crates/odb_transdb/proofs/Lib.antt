@@ -2,6 +2,7 @@ pub mod Headers
 pub mod Opened
 pub mod Entries
 pub mod Sides
+pub mod Kept
 pub mod Standing
 pub mod Forcing
 pub mod Forced
@@ -24,5 +25,10 @@ pub mod Turning
 pub mod Cleaning
 pub mod Invariants
 pub mod Composing
+pub mod Frame
 pub mod Quiet
 pub mod Gathered
+pub mod Placed
+pub mod Beginning
+pub mod Runs
+pub mod Running

@@ -8,7 +8,7 @@ use Rattle.odb_model.specs.declared.entry.Entry.{Entry}
 use Rattle.odb_transdb.specs.declared.header.Header.{Header}
 use Rattle.odb_transdb.specs.Header.{header_image, first_held}
 use Rattle.odb_transdb.specs.Opened.{Holds, entries_of, entries_in}
-use Rattle.odb_transdb.specs.Standing.{Db, IsSettled, StandsFor, Stands}
+use Rattle.odb_transdb.specs.Standing.{Db, IsSettled, Stands}
 use Rattle.odb_transdb.specs.Turning.{IsEnd, HoldsBy, StandsEither, StandsSince, EndsHeld}
 use Rattle.odb_transdb.proofs.Headers.{header_again}
 use Rattle.odb_transdb.proofs.Opened.{holds_has}
@@ -55,6 +55,7 @@ since_widen db all more front (Some f) same since = (
         kept = by_widen db.header db.active.next all more front db.pair.value image same one.kept;
         tried = by_widen db.header db.active.next all more front db.pair.tried image same one.tried;
       },
+  since.3,
 )
 
 -- what each value would give where the pair is settled
@@ -85,6 +86,7 @@ may_stand db (Some f) stands =
             kept = kept;
             tried = subst (λ (v : List ℕ). HoldsBy db.header db.active.next es v image) (sym settled.tried) kept;
           },
+      stands.5,
     )
 
 -- what an image holds whose pair keeps the header
@@ -118,9 +120,5 @@ settled_stands db all (Some f) reads settled pair since =
           record { pair = (since.2 image is).pair; holds = subst (λ (l : List Entry). Holds db.header l image) same one.2 },
       end.count,
       settled,
+      since.3,
     )
-
--- each image keeps the settled pair's value
-pub stands_pair_holds : (db : Db) (o : Option File) → ((bytes : List ℕ) → StandsFor db (entries_in o) bytes → PairHolds db.pair.value bytes) → Stands db o → EachImage (PairHolds db.pair.value) o
-stands_pair_holds db None holds stands = tt
-stands_pair_holds db (Some f) holds stands = λ image is. holds image (stands.2 image is)

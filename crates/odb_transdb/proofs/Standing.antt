@@ -19,10 +19,12 @@ use Rattle.odb_model.specs.declared.side.OtherSide.TheVariants.{Live, Dirty, Cle
 use Rattle.odb_transdb.specs.declared.header.Header.{Header}
 use Rattle.odb_transdb.specs.Header.{side_start, side_end, first_on, active_first, other_of, first_held}
 use Rattle.odb_transdb.specs.Opened.{holding, side_list, Holds, entries_of, entries_in}
-use Rattle.odb_transdb.specs.Standing.{Db, IsOfSide, IsLiveBy, IsDb, IsPlaced, IsSettled, Stands}
+use Rattle.odb_transdb.specs.Kept.{AreKept}
+use Rattle.odb_transdb.specs.Standing.{Db, IsOfSide, IsLiveBy, IsDb, IsPlaced, IsSettled, HasPlaces, Stands}
 use Rattle.odb_transdb.proofs.Headers.{IsLawful, lawful_is}
 use Rattle.odb_transdb.proofs.Opened.{Has, has_holds, holds_has}
 use Rattle.odb_transdb.proofs.Sides.{IsInside, active_sides, beside, has_kept, has_more}
+use Rattle.odb_transdb.proofs.Kept.{steps_same, kept_stays, within_later}
 
 -- the list of a log is that of its side
 pub log_list : (h : Header) (side : ℕ) (log : Log) (bytes : List ℕ) → IsOfSide h side log → log_of log.start log.end log.first bytes ≡ side_list h side bytes
@@ -70,15 +72,16 @@ entries_same h (Some f) (Some g) told reads each = entries_read h (entries_in (S
 
 -- all that stands, put together
 pub stands_made : (db : Db) (entries : List Entry) (o : Option File) → ReadsImage o → LogStands db.active o → IfSome db.live (λ log. LogStands log o) → EachImage (PairStandsFor db.pair) o → EachImage (Has db.header entries) o
-    → first_held db.header + length entries ≡ db.active.next → IsSettled db → Stands db o
-stands_made db entries None reads active live pair has count settled = settled
-stands_made db entries (Some f) reads active live pair has count settled =
+    → first_held db.header + length entries ≡ db.active.next → IsSettled db → IfSome o (λ f. HasPlaces db (Some f)) → Stands db o
+stands_made db entries None reads active live pair has count settled places = settled
+stands_made db entries (Some f) reads active live pair has count settled places =
     let same = entries_read db.header entries f reads has in (
       active,
       live,
       λ image is. record { pair = pair image is; holds = has_holds db.header entries image (has image is) ∙ ap (holding db.header) (sym same) },
       ap (λ (l : List Entry). first_held db.header + length l) same ∙ count,
       settled,
+      places,
     )
 
 -- a log of another region of the file still stands
@@ -108,7 +111,7 @@ adds_torn start end first payload at n (Some f) now adds =
 
 -- the record with another log of the active side
 abbrev pub with_active : Db → Log → Db
-with_active db log = record { header = db.header; pair = db.pair; active = log; live = db.live }
+with_active db log = record { header = db.header; pair = db.pair; active = log; live = db.live; places = db.places; live_places = db.live_places }
 
 pub settled_with : (db : Db) (log : Log) → IsSettled db → IsSettled (with_active db log)
 settled_with db log is = record { lawful = is.lawful; settled = is.settled; value = is.value; tried = is.tried }
@@ -133,6 +136,8 @@ is_db_with db log same further later is = record {
   place = omega (arith, same.start, is.place);
   from = omega (arith, is.from);
   live = live_with db.header db.header.other db.live db.active log same.first is.live;
+  places = within_later db.active log db.places same.start same.first further later is.places;
+  live_places = is.live_places;
 }
 
 -- a lawful first number is 1 or more
@@ -164,10 +169,27 @@ other_stays h (Some log) at n o now active inside side stands torn reads = log_s
     apart (inl low) = inl (omega (arith, side.start))
     apart (inr high) = inr (omega (arith, side.end))
 
+pub other_kept : (h : Header) (live : Option Log) (places : List ℕ) (at n : ℕ) (o now : Option File) → h.active ≤ 1 → IsInside h h.active at n → IfSome live (λ log. IsOfSide h (other_of h) log) → IfSome live (λ log. LogStands log o) → TornFrom at n o now
+    → ReadsImage now → IfSome o (λ f. IfSome live (λ log. AreKept log places (Some f))) → IfSome now (λ g. IfSome live (λ log. AreKept log places (Some g)))
+other_kept h None places at n o now active inside side stands torn reads kept = none now
+  where
+    none : (p : Option File) → IfSome p (λ g. Unit {0})
+    none None = tt
+    none (Some g) = tt
+other_kept h (Some log) places at n o now active inside side stands torn reads kept = kept_stays log places at n o now (apart (beside h h.active (other_of h) at n (active_sides h active) inside)) stands torn reads kept
+  where
+    apart : (at + n ≤ side_start h (other_of h)) ⊎ (side_end h (other_of h) ≤ at) → (at + n ≤ log.start) ⊎ (log.end ≤ at)
+    apart (inl low) = inl (omega (arith, side.start))
+    apart (inr high) = inr (omega (arith, side.end))
+
 -- writes inside the active side
 module _ (db : Db) (is : IsDb db) (at n : ℕ) (inside : IsInside db.header db.header.active at n) where
   pub low_active : db.header.active ≤ 1
   low_active = (lawful_is db.header is.lawful).active
+
+  pub live_kept : (o now : Option File) → IfSome db.live (λ log. LogStands log o) → TornFrom at n o now → ReadsImage now → IfSome o (λ f. IfSome db.live (λ log. AreKept log db.live_places (Some f)))
+      → IfSome now (λ g. IfSome db.live (λ log. AreKept log db.live_places (Some g)))
+  live_kept o now stands torn reads kept = other_kept db.header db.live db.live_places at n o now low_active inside (live_side db.header db.header.other db.live db.active is.live) stands torn reads kept
 
   pub live_stays : (o now : Option File) → IfSome db.live (λ log. LogStands log o) → TornFrom at n o now → ReadsImage now → IfSome db.live (λ log. LogStands log now)
   live_stays o now stands torn reads = other_stays db.header db.live at n o now low_active inside (live_side db.header db.header.other db.live db.active is.live) stands torn reads
@@ -211,12 +233,25 @@ module _ (db : Db) (is : IsDb db) (at n : ℕ) (inside : IsInside db.header db.h
           (sym (log_list db.header db.header.active db.active image is.active) ∙ more ∙ ap (λ (l : List (List ℕ)). l ++ payload ∷ []) list)
           (subst (λ (k : ℕ). read_entry k payload ≡ Ok e) next one) has
 
+  -- and the places kept where the list stays
+  keeps_places : (log : Log) (o now : Option File) → SameList db.active log → KeepsLists db.active.start db.active.end db.active.first at n o now → Stands db o → IfSome now (λ g. IfSome db.live (λ l. AreKept l db.live_places (Some g))) → ReadsImage now
+      → IfSome now (λ g. HasPlaces (with_active db log) (Some g))
+  keeps_places log o None same keeps stands live reads = tt
+  keeps_places log None (Some g) same keeps stands live reads = absurd (cc keeps)
+  keeps_places log (Some f) (Some g) same keeps stands live reads =
+      let b = keeps g.bytes reads in
+      let list : list_of log (Some g) ≡ list_of db.active (Some f) =
+      ap (λ (s : ℕ). log_of s log.end log.first g.bytes) same.start ∙ ap (λ (e : ℕ). log_of db.active.start e log.first g.bytes) same.end ∙ ap (λ (n : ℕ). log_of db.active.start db.active.end n g.bytes) same.first
+      ∙ b.3 ∙ (stands.0 b.0 b.1).list in
+      (steps_same db.active.start log.start (list_of db.active (Some f)) (list_of log (Some g)) db.places same.start list stands.5.0, live)
+
   -- a call that leaves the list leaves all that stands
   pub keeps_stands : (log : Log) (o now : Option File) → Stands db o → KeepsLists db.active.start db.active.end db.active.first at n o now → is_some now ≡ is_some o → ReadsImage now → LogStands log now
-      → log.next ≡ db.active.next → Stands (with_active db log) now
+      → SameList db.active log → Stands (with_active db log) now
   keeps_stands log None now stands keeps told reads active same = subst (Stands (with_active db log)) (sym keeps) (settled_with db log stands)
   keeps_stands log (Some f) now stands keeps told reads active same =
       let torn = keeps_torn db.active.start db.active.end db.active.first at n (Some f) now keeps in
       let far : 1024 ≤ at = omega (arith, inside.low) in
       stands_made (with_active db log) (entries_in (Some f)) now reads active (live_stays (Some f) now (stands_live db (Some f) stands) torn reads) (pair_stays db.pair at n (Some f) now far (stands_pair db (Some f) stands) torn)
-      (keeps_has (entries_in (Some f)) (Some f) now keeps (stands_has db (Some f) stands)) (stands.3 ∙ sym same) (settled_with db log (stands_settled db (Some f) stands))
+      (keeps_has (entries_in (Some f)) (Some f) now keeps (stands_has db (Some f) stands)) (stands.3 ∙ sym same.next) (settled_with db log (stands_settled db (Some f) stands))
+      (keeps_places log (Some f) now same keeps stands (live_kept (Some f) now (stands_live db (Some f) stands) torn reads stands.5.1) reads)

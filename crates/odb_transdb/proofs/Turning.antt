@@ -19,14 +19,15 @@ use Rattle.odb_model.specs.declared.side.OtherSide.TheVariants.{Live, Dirty, Cle
 use Rattle.odb_transdb.specs.declared.header.Header.{Header}
 use Rattle.odb_transdb.specs.Header.{header_image, header_of, is_header, side_start, side_end, side_size, file_size, active_first, first_held, other_of, turned}
 use Rattle.odb_transdb.specs.Opened.{entries_of, entries_in}
-use Rattle.odb_transdb.specs.Standing.{Db, IsLiveBy, IsDb, IsSettled, Stands}
+use Rattle.odb_transdb.specs.Standing.{Db, IsLiveBy, IsDb, IsSettled, HasPlaces, Stands}
 use Rattle.odb_transdb.specs.Turning.{IsBeside, IsEnd, HoldsOneOf, HoldsBy, StandsEither, StandsSince, HasZeroOther, EndsHeld, IsOfTurn}
 use Rattle.odb_transdb.proofs.Headers.{IsLawful, lawful_is, header_again}
 use Rattle.odb_transdb.proofs.Opened.{IsSound}
 use Rattle.odb_transdb.proofs.Sides.{active_sides, inside_file}
 use Rattle.odb_transdb.proofs.Standing.{some_first}
 use Rattle.odb_transdb.proofs.Contents.{IsContent, content_of, content_under, clean_zero, turned_active, turned_held, turned_content, active_list}
-use Rattle.odb_transdb.proofs.Heading.{since_each, since_log, since_made, put_only, put_run, put_log, put_done, put_left, Given}
+use Rattle.odb_transdb.proofs.Kept.{steps_none, if_told_then}
+use Rattle.odb_transdb.proofs.Heading.{since_each, since_log, since_made, put_only, put_places, put_run, put_log, put_done, put_left, Given}
 use Rattle.odb_transdb.proofs.Settling.{ends_alike, ends_held, settled_stands}
 
 -- a header whose fields are in order is lawful
@@ -168,7 +169,7 @@ module _ (db : Db) (is : IsDb db) (clean : db.header.other ≡ Clean) (few : db.
     module _ (reads : ReadsImage (file_of 0 now)) (pair : PairState) (stands : EachImage (PairStandsFor pair) (file_of 0 now)) where
       -- broken off
       abbrev pub left_db : Db
-      left_db = record { header = h; pair = pair; active = db.active; live = db.live }
+      left_db = record { header = h; pair = pair; active = db.active; live = db.live; places = db.places; live_places = db.live_places }
 
       live_still : (o : OtherSide) (live : Option Log) → h.other ≡ o → IsLiveBy h o live db.active → IfSome live (λ log. LogStands log (file_of 0 now))
       live_still Clean None same by = tt
@@ -181,13 +182,14 @@ module _ (db : Db) (is : IsDb db) (clean : db.header.other ≡ Clean) (few : db.
           since_made left_db all (file_of 0 now) (put_log db all value w now is.file runs t db.active h.active is.active reads (since_log db all (file_of 0 w) since)) (live_still h.other db.live refl is.live)
           (put_left db all value w now is.file runs t left_db given stands refl left.value left.tried (λ before here. here.0.own) (λ x was beside. beside)
           (λ x found. inr (inl (clean, new_is x found))))
+          (put_places db all value w now is.file runs t is reads since)
 
       -- done
       module _ (log : Log) (log_is : log ≡ begun 0 (side_start t t.active) (side_end t t.active) (active_first t))
           (begins : (bytes : List ℕ) → side_end t t.active ≤ length bytes → AreZero (side_start t t.active) (side_end t t.active) bytes → LogStandsFor log [] [] bytes)
           (settled : pair.settled ≡ true) (kept : pair.value ≡ value) (tried : pair.tried ≡ value) (holds : EachImage (PairHolds value) (file_of 0 now)) where
         abbrev pub turned_db : Db
-        turned_db = record { header = t; pair = pair; active = log; live = Some db.active }
+        turned_db = record { header = t; pair = pair; active = log; live = Some db.active; places = []; live_places = db.places }
 
         next_is : log.next ≡ n
         next_is = ap (λ (l : Log). l.next) log_is ∙ turned_active h n lawful.active
@@ -204,6 +206,7 @@ module _ (db : Db) (is : IsDb db) (clean : db.header.other ≡ Clean) (few : db.
         turned_since =
             since_made turned_db all (file_of 0 now) begun_stands (put_log db all value w now is.file runs t db.active h.active is.active reads (since_log db all (file_of 0 w) since))
             (put_done db all value w now is.file runs t turned_db given stands refl next_is (sym value_is) kept tried)
+            (if_told_then (λ g. HasPlaces db (Some g)) (λ g. HasPlaces turned_db (Some g)) (file_of 0 now) (λ g has. (steps_none log.start (list_of log (Some g)), has.0)) (put_places db all value w now is.file runs t is reads since))
 
         turned_settled : IsSettled turned_db
         turned_settled = record { lawful = new_lawful; settled = settled; value = kept ∙ value_is; tried = tried ∙ sym kept }

@@ -22,7 +22,7 @@ use Rattle.odb_model.specs.Width.{record_width}
 use Rattle.odb_transdb.specs.declared.error.TransdbError.{TransdbError}
 use Rattle.odb_transdb.specs.declared.error.TransdbError.TheVariants.{NoDatabase, Damaged, Full, FaultBefore, InDoubt, NotClean, Held, Fault, NoMemory}
 use Rattle.odb_transdb.specs.Opened.{entries_from}
-use Rattle.odb_transdb.specs.Walking.{IsReadOf, IsRecordOf, IsEntryOf, IsPart, AddsPart, AddsSome}
+use Rattle.odb_transdb.specs.Walking.{IsReadOf, IsRecordOf, IsEntryOf, AddsPart, AddsSome, IsBefore, CanBegin}
 use Rattle.odb_transdb.proofs.Entries.{read_more, read_fault, count_read}
 
 -- the places of a list
@@ -161,40 +161,35 @@ pub record IsWalked (log : Log) (from : ℕ) (base : List Entry) (w now : World)
   pub part : AddsPart from log.first number (at - log.start) base items
   pub told : IfSome (file_of log.file w) (λ f. IsReadUpTo from log.start log.first (log_of log.start log.end log.first f.bytes) base items at number)
 
-part_none : (from first n : ℕ) → n ≡ 0 → IsPart from first first n []
-part_none from first n none = record { numbers = tt; count = omega arith; width = λ before. sym none }
-
-none_told : (from start first : ℕ) (list : List (List ℕ)) (base : List Entry) → IsReadUpTo from start first list base base start first
-none_told from start first list base = record {
-  done = [];
-  rest = list;
-  all = [];
-  list_is = refl;
-  place = refl;
-  number_is = omega arith;
-  read = refl;
-  items_are = sym (ap (λ (l : List Entry). base ++ l) (drop_all (from - first) [] (omega arith)) ∙ append-nil base);
+-- it begins where none of those that it leaves is wanted
+begun_told : (log : Log) (from : ℕ) (base : List Entry) (at number : ℕ) (bytes : List ℕ) → max from log.first ≡ max from number → IsBefore log at number bytes
+    → IsReadUpTo from log.start log.first (log_of log.start log.end log.first bytes) base base at number
+begun_told log from base at number bytes wanted before = record {
+  done = before.done;
+  rest = before.rest;
+  all = before.all;
+  list_is = before.list_is;
+  place = before.place;
+  number_is = before.number_is;
+  read = before.read;
+  items_are = sym (ap (λ (l : List Entry). base ++ l) (drop_all (from - log.first) before.all (omega (arith, wanted, before.number_is, count_read log.first log.start before.done before.all before.read))) ∙ append-nil base);
 }
 
-walked_first : (log : Log) (from : ℕ) (base : List Entry) (w : World) (window : Window) → Shows window (file_of log.file w) → IsWalked log from base w w window log.start log.first base
-walked_first log from base w window shows = record {
+pub walked_begun : (log : Log) (from : ℕ) (base : List Entry) (w : World) (window : Window) (at number : ℕ) → CanBegin log from at number w → Shows window (file_of log.file w) → IsWalked log from base w w window at number base
+walked_begun log from base w window at number can shows = record {
   run = begins log.file (λ f. f ≡ file_of log.file w) w refl;
   shows = shows;
-  low = omega arith;
-  high = inl refl;
-  least = omega arith;
-  most = omega arith;
-  part = ([], sym (append-nil base), part_none from log.first (log.start - log.start) (omega arith));
-  told = of_file (file_of log.file w);
+  low = can.low;
+  high = can.high;
+  least = can.least;
+  most = can.most;
+  part = ([], sym (append-nil base), record { numbers = tt; count = omega (arith, can.wanted); width = λ low. let here = can.whole low in omega arith });
+  told = of_file (file_of log.file w) can.told;
 }
   where
-    of_file : (o : Option File) → IfSome o (λ f. IsReadUpTo from log.start log.first (log_of log.start log.end log.first f.bytes) base base log.start log.first)
-    of_file None = tt
-    of_file (Some f) = none_told from log.start log.first (log_of log.start log.end log.first f.bytes) base
-
-pub walked_none : (log : Log) (start first from : ℕ) (base : List Entry) (w : World) (window : Window) → start ≡ log.start → first ≡ log.first → Shows window (file_of log.file w) → IsWalked log from base w w window start first base
-walked_none log start first from base w window is_start is_first shows =
-    subst (λ (at : ℕ). IsWalked log from base w w window at first base) (sym is_start) (subst (λ (number : ℕ). IsWalked log from base w w window log.start number base) (sym is_first) (walked_first log from base w window shows))
+    of_file : (o : Option File) → IfSome o (λ f. IsBefore log at number f.bytes) → IfSome o (λ f. IsReadUpTo from log.start log.first (log_of log.start log.end log.first f.bytes) base base at number)
+    of_file None told = tt
+    of_file (Some f) told = begun_told log from base at number f.bytes can.wanted told
 
 -- one entry more, which is taken where its number is `from` or above
 part_more : (from first number bytes at_bytes : ℕ) (old items added : List Entry) (e : Entry) → first ≤ number → AddsPart from first number bytes old items → e.number ≡ number → at_bytes ≡ bytes + record_width e
@@ -265,7 +260,7 @@ module _ (log : Log) (from : ℕ) (base : List Entry) (w mid : World) (window : 
       of_file None told = tt
       of_file (Some f) told = at_place from log.start log.first (log_of log.start log.end log.first f.bytes) base items at number told
 
-  its_next : (f : File) → LogStands log (Some f) → ReadsImage (Some f) → at < log.place → (told : IsReadUpTo from log.start log.first (log_of log.start log.end log.first f.bytes) base items at number)
+  pub its_next : (f : File) → LogStands log (Some f) → ReadsImage (Some f) → at < log.place → (told : IsReadUpTo from log.start log.first (log_of log.start log.end log.first f.bytes) base items at number)
       → Next from log.start log.first (log_of log.start log.end log.first f.bytes) base items at number told
   its_next f stands reads inside told = next_of from log.start log.first (log_of log.start log.end log.first f.bytes) base items at number told (omega (arith, (stands f.bytes reads).place))
 

@@ -1,5 +1,6 @@
 pub mod Header
 pub mod Opened
+pub mod Kept
 pub mod Standing
 pub mod Answers
 pub mod Steps
@@ -8,3 +9,4 @@ pub mod Opening
 pub mod Worlds
 pub mod Leaving
 pub mod Turning
+pub mod Runs

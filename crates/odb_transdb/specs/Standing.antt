@@ -12,14 +12,17 @@ use Rattle.odb_model.specs.Width.{records_width}
 use Rattle.odb_transdb.specs.declared.header.Header.{Header}
 use Rattle.odb_transdb.specs.Header.{header_image, is_header, side_start, side_end, first_on, active_first, first_held, other_of}
 use Rattle.odb_transdb.specs.Opened.{Holds, entries_in}
+use Rattle.odb_transdb.specs.Kept.{AreWithin, AreKept}
 
 -- Its header, the pair that keeps it, the log of the active side, and that of the other side where
--- it is Live.
+-- it is Live; and the places kept of each, for the readings.
 pub record Db : Type 0 where
   pub header : Header
   pub pair : PairState
   pub active : Log
   pub live : Option Log
+  pub places : List ℕ
+  pub live_places : List ℕ
 
 -- the log is that of this side of file 0
 pub record IsOfSide (h : Header) (side : ℕ) (log : Log) : Type 0 where
@@ -39,8 +42,8 @@ IsLiveBy h Dirty None active = Unit {0}
 IsLiveBy h Clean (Some log) active = ⊥
 IsLiveBy h Clean None active = Unit {0}
 
--- the header is lawful, the pair of file 0 keeps it where that is settled, and the logs are those of
--- its sides
+-- the header is lawful, the pair of file 0 keeps it where that is settled, the logs are those of its
+-- sides, and the places kept lie in them
 pub record IsDb (db : Db) : Type 0 where
   pub lawful : IsTrue (is_header db.header)
   pub file : db.pair.file ≡ 0
@@ -50,6 +53,8 @@ pub record IsDb (db : Db) : Type 0 where
   pub place : db.active.start ≤ db.active.place
   pub from : first_on db.header db.header.active ≤ db.active.next
   pub live : IsLiveBy db.header db.header.other db.live db.active
+  pub places : AreWithin db.active db.places
+  pub live_places : IfSome db.live (λ log. AreWithin log db.live_places)
 
 -- Where the active side lies, of whatever file: its next record stands in it, and its number isn't
 -- below that of the side's first, which is 1 or more
@@ -58,6 +63,14 @@ pub record IsPlaced (db : Db) : Type 0 where
   pub place : db.active.start ≤ db.active.place
   pub from : first_on db.header db.header.active ≤ db.active.next
   pub some : 1 ≤ first_on db.header db.header.active
+
+-- they differ in the places kept of the active side alone
+pub record AreAlike (old new : Db) : Type 0 where
+  pub header : new.header ≡ old.header
+  pub pair : new.pair ≡ old.pair
+  pub active : new.active ≡ old.active
+  pub live : new.live ≡ old.live
+  pub live_places : new.live_places ≡ old.live_places
 
 -- they are under the same header, and both placed
 pub record AreAlikePlaced (old new : Db) : Type 0 where
@@ -77,16 +90,21 @@ pub record StandsFor (db : Db) (entries : List Entry) (bytes : List ℕ) : Type 
   pub pair : PairStandsFor db.pair bytes
   pub holds : Holds db.header entries bytes
 
+-- the places kept of each side that holds entries are those of its records
+abbrev pub HasPlaces : Db → Option File → Type 0
+HasPlaces db file =
+    AreKept db.active db.places file × IfSome db.live (λ log. AreKept log db.live_places file)
+
 -- The pair is settled, each image holds the entries that a read gives, which end where the next
--- record's number begins, and each log stands for its side. Of a file that isn't told this says that
--- the pair is settled
+-- record's number begins, each log stands for its side, and the places kept are those of the records.
+-- Of a file that isn't told this says that the pair is settled
 abbrev pub Stands : Db → Option File → Type 0
 Stands db None = IsSettled db
 Stands db (Some file) =
     LogStands db.active (Some file) × IfSome db.live (λ log. LogStands log (Some file))
     × EachImage (StandsFor db (entries_in (Some file))) (Some file)
     × (first_held db.header + length (entries_in (Some file)) ≡ db.active.next)
-    × IsSettled db
+    × IsSettled db × HasPlaces db (Some file)
 
 -- the bytes left on the active side
 abbrev pub room_of : Db → ℕ

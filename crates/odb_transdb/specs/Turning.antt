@@ -5,6 +5,7 @@ use Rattle.odb_device.specs.World.{File, World, file_of}
 use Rattle.odb_device.specs.Images.{EachImage}
 use Rattle.odb_device.specs.Calls.{FileCountRose}
 use Rattle.odb_device.specs.Moments.{Runs, WritesWithin}
+use Rattle.odb_device.specs.TornSets.{TornInFrom}
 use Rattle.odb_device.specs.Zeros.{AreZero}
 use Rattle.odb_pair.specs.Standing.{StandsFor as PairStandsFor}
 use Rattle.odb_reclog.specs.Standing.{Stands as LogStands, begun}
@@ -16,7 +17,7 @@ use Rattle.odb_transdb.specs.declared.error.TransdbError.{TransdbError}
 use Rattle.odb_transdb.specs.declared.error.TransdbError.TheVariants.{NoDatabase, Damaged, Full, FaultBefore, InDoubt, NotClean, Held, Fault, NoMemory}
 use Rattle.odb_transdb.specs.Header.{header_image, header_of, side_start, side_end, active_first, first_held, other_of, with_other, turned}
 use Rattle.odb_transdb.specs.Opened.{holding, with_header, Holds, entries_in}
-use Rattle.odb_transdb.specs.Standing.{Db, Stands}
+use Rattle.odb_transdb.specs.Standing.{Db, HasPlaces, Stands}
 use Rattle.odb_transdb.specs.Worlds.{Forces}
 
 -- a header that a crash may leave: that of the value that the pair keeps, or of the one tried since
@@ -66,13 +67,14 @@ pub record StandsEither (db : Db) (all : List Entry) (bytes : List ℕ) : Type 0
   pub kept : HoldsBy db.header db.active.next all db.pair.value bytes
   pub tried : HoldsBy db.header db.active.next all db.pair.tried bytes
 
--- Each image holds the last of these entries, under one of the headers that a crash may leave, and
--- each log stands for its side. Of a file that isn't told this says nothing
+-- Each image holds the last of these entries, under one of the headers that a crash may leave, each
+-- log stands for its side, and the places kept are those of the records. Of a file that isn't told
+-- this says nothing
 abbrev pub StandsSince : Db → List Entry → Option File → Type 0
 StandsSince db all None = Unit {0}
 StandsSince db all (Some file) =
     LogStands db.active (Some file) × IfSome db.live (λ log. LogStands log (Some file))
-    × EachImage (StandsEither db all) (Some file)
+    × EachImage (StandsEither db all) (Some file) × HasPlaces db (Some file)
 
 -- of some entries
 abbrev pub MayStand : Db → Option File → Type 0
@@ -103,6 +105,8 @@ pub record SameSides (old new : Db) : Type 0 where
   pub header : new.header ≡ old.header
   pub active : new.active ≡ old.active
   pub live : new.live ≡ old.live
+  pub places : new.places ≡ old.places
+  pub live_places : new.live_places ≡ old.live_places
 
 -- `turn`: NotClean exactly where the other side isn't Clean; else it is done, or a fault came
 abbrev pub IsTurnAnswer : Db → Result ⊤ TransdbError → Type 0
@@ -186,6 +190,15 @@ pub record IsCleaned (old new : Db) (after : World) : Type 0 where
 -- the side that isn't active is zeros
 abbrev pub HasZeroOther : Header → List ℕ → Type 0
 HasZeroOther h bytes = AreZero (side_start h (other_of h)) (side_end h (other_of h)) bytes
+
+-- the byte is of the pair, or of the side that isn't active
+abbrev pub IsOfOther : Header → ℕ → Type 0
+IsOfOther h i = (i < 1024) ⊎ ((side_start h (other_of h) ≤ i) × (i < side_end h (other_of h)))
+
+-- only file 0 changes, and at each moment each image is one from before but for such bytes
+abbrev pub WritesOther : Header → World → World → Type 0
+WritesOther h old new =
+    Runs 0 (TornInFrom (IsOfOther h) (side_end h (other_of h)) (file_of 0 old)) old new
 
 -- a header that is left, or the present one
 abbrev pub IsOfSettling : Db → Header → Type 0

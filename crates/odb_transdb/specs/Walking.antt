@@ -1,5 +1,7 @@
--- What the walk over the records of a side finds.
-use Rattle.std.specs.Prelude.{◌≡◌, ◌≢◌, ℕ, ◌+◌, ◌-◌, ◌≤◌, max, List, [], ◌++◌, length, Option, Some, Result, Ok, Err}
+-- What the walk over the records of a side finds, and where it may begin.
+use Rattle.std.specs.Prelude.{◌≡◌, ◌≢◌, ◌⊎◌, ℕ, ◌+◌, ◌-◌, ◌*◌, ◌<◌, ◌≤◌, max, List, [], ◌++◌, length, slice_index, Option, Some, Result, Ok, Err}
+use Rattle.odb_device.specs.World.{World}
+use Rattle.odb_reclog.specs.Told.{IfTold}
 use Rattle.odb_reclog.specs.Records.{log_of, end_of_list, record_in}
 use Rattle.odb_reclog.specs.Standing.{Log}
 use Rattle.odb_reclog.specs.declared.record.LogRecord.{LogRecord}
@@ -14,6 +16,7 @@ use Rattle.odb_transdb.specs.declared.error.TransdbError.{TransdbError}
 use Rattle.odb_transdb.specs.declared.error.TransdbError.TheVariants.{NoDatabase, Damaged, Full, FaultBefore, InDoubt, NotClean, Held, Fault, NoMemory}
 use Rattle.odb_transdb.specs.Header.{side_start, first_on, other_of}
 use Rattle.odb_transdb.specs.Opened.{entries_from, side_entries, joined}
+use Rattle.odb_transdb.specs.Kept.{AreWithin}
 
 -- the entries of the other side where it is Live
 abbrev pub live_read : Header → OtherSide → List ℕ → Result (List Entry) ℕ
@@ -110,3 +113,35 @@ AreUpTo from next entries = IsNumberedFrom from entries × (from + length entrie
 -- or a front of these
 abbrev pub AreSome : ℕ → ℕ → List Entry → Type 0
 AreSome from next entries = IsNumberedFrom from entries × (from + length entries ≤ max from next)
+
+-- the records of a log before a place are entries, and the record there would have this number
+pub record IsBefore (log : Log) (at number : ℕ) (bytes : List ℕ) : Type 0 where
+  pub done : List (List ℕ)
+  pub rest : List (List ℕ)
+  pub all : List Entry
+  pub list_is : log_of log.start log.end log.first bytes ≡ done ++ rest
+  pub place : at ≡ end_of_list log.start done
+  pub number_is : number ≡ log.first + length done
+  pub read : entries_from log.first log.start done ≡ Ok all
+
+-- A walk over a log that wants the entries from a number on may begin at this place, with this
+-- number: none of those that it leaves is wanted
+pub record CanBegin (log : Log) (from at number : ℕ) (w : World) : Type 0 where
+  pub low : log.start ≤ at
+  pub high : (at ≡ log.start) ⊎ (at ≤ log.place)
+  pub least : log.first ≤ number
+  pub most : number ≤ max log.first log.next
+  pub wanted : max from log.first ≡ max from number
+  pub whole : from ≤ log.first → at ≡ log.start
+  pub told : IfTold log.file w (IsBefore log at number)
+
+-- the places kept are those of a log's records, all of which are entries
+pub record ArePlaced (log : Log) (places : List ℕ) (bytes : List ℕ) : Type 0 where
+  pub each : (k : ℕ) → k < length places
+      → IsBefore log (slice_index places k) (log.first + 64 * (k + 1)) bytes
+  pub end : IsBefore log log.place log.next bytes
+
+-- of a told file, and they lie in the log
+pub record CanStep (log : Log) (places : List ℕ) (w : World) : Type 0 where
+  pub within : AreWithin log places
+  pub told : IfTold log.file w (ArePlaced log places)

@@ -3,6 +3,7 @@ ghost use Rattle.std.specs.Prelude.{◌≡◌, ◌≢◌, ℕ, List, false, Ok, 
 ghost use Rattle.odb_device.specs.World.{file_of};
 ghost use Rattle.odb_device.specs.Images.{EachImage};
 ghost use Rattle.odb_device.specs.Calls.{HasCause, FileCountRose};
+ghost use Rattle.odb_device.specs.Moments.{WritesWithin};
 ghost use Rattle.odb_model.specs.declared.entry.Entry.{Entry};
 ghost use Rattle.odb_model.specs.declared.side.OtherSide.TheVariants.{Dirty, Clean};
 
@@ -14,7 +15,7 @@ use odb_model::OtherSide;
 impl Transdb {
     ghost use Rattle.odb_transdb.specs.Standing.{IsPlaced, Stands};
     ghost use Rattle.odb_transdb.specs.Worlds.{KeepsEntries, SameEntries};
-    ghost use Rattle.odb_transdb.specs.Turning.{MayStand, StandsSince, SameSides, HasOther, HasZeroOther, IsCleanAnswer, RunsClean, IsCleaned};
+    ghost use Rattle.odb_transdb.specs.Turning.{MayStand, StandsSince, SameSides, HasOther, HasZeroOther, IsCleanAnswer, RunsClean, WritesOther, IsCleaned};
 
     /// Makes the other side zeros, and Clean, where its entries aren't wanted: all up to `least`
     /// may go. A Clean side is left, without a call of the store.
@@ -22,7 +23,7 @@ impl Transdb {
     /// It puts the header with a Dirty side, zeroes the side in pieces of 65,536 bytes, syncs, and
     /// puts the header with a Clean one: at most six writes and seven syncs beside the pieces. At
     /// each moment a crash leaves the entries from the old first number on, or those of the active
-    /// side. No memory is taken.
+    /// side; only the pair and the other side are written. No memory is taken.
     ///
     /// - `Held`: the other side is Live, and its last entry has a number above `least`. No call of
     ///   the store was made.
@@ -38,6 +39,7 @@ impl Transdb {
             → (result ≡ Ok tt) × (self.new ≡ self.old) × (store.new ≡ store.old) }
         ensures run { (all : List Entry) → StandsSince self.old all (file_of 0 (S.world store.old))
             → RunsClean all self.old self.new (S.world store.old) (S.world store.new) }
+        ensures only { WritesOther self.old.header (S.world store.old) (S.world store.new) }
         ensures cleaned { OnOk result (self.old.header.other ≢ Clean
             → IsCleaned self.old self.new (S.world store.new)) }
         ensures fault { result ≡ Err TransdbError.Fault → HasOther Dirty self.old self.new }
@@ -65,6 +67,7 @@ impl Transdb {
         requires stands { MayStand self.old (file_of 0 (S.world store.old)) }
         ensures run { (all : List Entry) → StandsSince self.old all (file_of 0 (S.world store.old))
             → RunsClean all self.old self.new (S.world store.old) (S.world store.new) }
+        ensures only { WritesWithin 0 0 1024 (S.world store.old) (S.world store.new) }
         ensures dirty { HasOther Dirty self.old self.new }
         ensures stands { OnOk result (Stands self.new (file_of 0 (S.world store.new))) }
         ensures placed { IsPlaced self.old × IsPlaced self.new }
@@ -73,6 +76,7 @@ impl Transdb {
     {
         self.header = self.header.with_other(OtherSide::Dirty);
         self.live = None;
+        self.live_places.clear();
         let image = self.header.image();
         match self.pair.put(store, &image) {
             Ok(()) => Ok(()),
@@ -85,6 +89,7 @@ impl Transdb {
         requires dirty { self.now.header.other ≡ Dirty }
         requires stands { Stands self.now (file_of 0 (S.world store.old)) }
         ensures run { KeepsEntries self.now (S.world store.old) (S.world store.new) }
+        ensures only { WritesOther self.now.header (S.world store.old) (S.world store.new) }
         ensures stands { Stands self.now (file_of 0 (S.world store.new)) }
         ensures entries { SameEntries (S.world store.old) (S.world store.new) }
         ensures zero { OnOk result
@@ -104,6 +109,7 @@ impl Transdb {
         requires zero { EachImage (HasZeroOther self.old.header) (file_of 0 (S.world store.old)) }
         ensures run { (all : List Entry) → StandsSince self.old all (file_of 0 (S.world store.old))
             → RunsClean all self.old self.new (S.world store.old) (S.world store.new) }
+        ensures only { WritesWithin 0 0 1024 (S.world store.old) (S.world store.new) }
         ensures clean { OnOk result (IsCleaned self.old self.new (S.world store.new)) }
         ensures left { OnErr result (SameSides self.old self.new) }
         ensures placed { IsPlaced self.new }

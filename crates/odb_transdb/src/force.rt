@@ -1,6 +1,7 @@
 //! How a commit becomes durable.
-ghost use Rattle.std.specs.Prelude.{◌≡◌, ℕ, ◌+◌, ◌≤◌, true, false, List, [], ◌∷◌, length, Ok, Err, IfOk, OnOk, OnErr};
-ghost use Rattle.odb_device.specs.World.{file_of};
+ghost use Rattle.std.specs.Prelude.{◌≡◌, ℕ, ◌+◌, ◌≤◌, true, false, List, [], ◌∷◌, length, Option, Ok, Err, IfOk, OnOk, OnErr};
+ghost use Rattle.odb_device.specs.World.{File, file_of};
+ghost use Rattle.odb_device.specs.Images.{ReadsImage};
 ghost use Rattle.odb_device.specs.Calls.{HasCause, FileCountRose, IsOnePut};
 ghost use Rattle.odb_device.specs.Moments.{WritesWithin};
 ghost use Rattle.odb_reclog.specs.Records.{OPEN, HEAD};
@@ -14,7 +15,7 @@ use odb_pair::PairError;
 use odb_reclog::RecError;
 
 impl Transdb {
-    ghost use Rattle.odb_transdb.specs.Standing.{Stands, IsPlaced, AreAlikePlaced, SamePlace, room_of};
+    ghost use Rattle.odb_transdb.specs.Standing.{Stands, IsPlaced, AreAlike, AreAlikePlaced, SamePlace, room_of};
     ghost use Rattle.odb_transdb.specs.Turning.{MayStand, StandsSince, SameSides, RunsSettling, SettlesFirst};
     ghost use Rattle.odb_transdb.specs.Answers.{IsEntryImage, IsForceAnswer};
     ghost use Rattle.odb_transdb.specs.Leaving.{MovesOn};
@@ -114,7 +115,10 @@ impl Transdb {
         }
         let number = self.active.next_number();
         match self.open_gate(store) {
-            Ok(number) => Ok(number),
+            Ok(number) => {
+                self.keep_place();
+                Ok(number)
+            }
             Err(_) => Err(TransdbError::InDoubt { number }),
         }
     }
@@ -156,5 +160,17 @@ impl Transdb {
         ensures cause { OnErr result (FileCountRose 0 (S.world store.old) (S.world store.new)) }
     {
         self.active.open_gate(store)
+    }
+
+    /// Keeps the place of the active side's next record, where that is the next to be kept.
+    fn keep_place(&mut self)
+        ensures log { AreAlike self.old self.new }
+        ensures stands { (file : Option File) → ReadsImage file → Stands self.old file
+            → Stands self.new file }
+        ensures placed { IsPlaced self.new }
+    {
+        let first = self.header.first_on(self.header.active);
+        self.places
+            .keep(first, self.active.next_number(), self.active.place());
     }
 }

@@ -1,5 +1,5 @@
 //! Opening TRANSDB, with each check that its bytes are in order.
-ghost use Rattle.std.specs.Prelude.{◌≡◌, ◌≢◌, ◌⊎◌, ℕ, ◌+◌, ◌<◌, ◌≤◌, ◌++◌, true, false, length, Some, IsTrue, IsSome, IfOk, IfErr, Err};
+ghost use Rattle.std.specs.Prelude.{◌≡◌, ◌≢◌, ◌⊎◌, ℕ, ◌+◌, ◌<◌, ◌≤◌, ◌++◌, true, false, [], length, Some, IsTrue, IsSome, IfSome, IfOk, IfErr, Err};
 ghost use Rattle.odb_device.specs.World.{file_of};
 ghost use Rattle.odb_device.specs.Images.{EachImage, part};
 ghost use Rattle.odb_device.specs.Calls.{FileCountRose, HasCause, Keeps};
@@ -8,6 +8,7 @@ ghost use Rattle.odb_pair.specs.Standing.{StandsFor as PairStandsFor};
 ghost use Rattle.odb_reclog.specs.Told.{IfTold, OnlyReads, TearsOnly};
 ghost use Rattle.odb_transdb.specs.Header.{is_header, file_size};
 ghost use Rattle.odb_transdb.specs.Opened.{opened, first_other_place, side_entries, with_sides, with_header};
+ghost use Rattle.odb_transdb.specs.Kept.{AreKeptIn, AreWithin};
 ghost use Rattle.odb_transdb.specs.Standing.{Stands};
 ghost use Rattle.odb_transdb.specs.Answers.{IsAnswerBy, IsOpenAnswer, IsFullAnswer, IsOpenRefusal, FailsAsRead};
 ghost use Rattle.odb_transdb.specs.Walking.{IsReadOf};
@@ -16,6 +17,7 @@ ghost use Rattle.odb_transdb.specs.Leaving.{LeavesSide, LeavesOther, IsSideOpene
 ghost use Rattle.odb_transdb.specs.Opening.{IsPairFound, IsFirstOther, IsUnless, IsChecked, EndsRight};
 
 use crate::header::Header;
+use crate::places::Places;
 use crate::reading::add_payloads;
 use crate::transdb::FILE;
 use crate::{Transdb, TransdbError};
@@ -63,8 +65,8 @@ impl Transdb {
     /// sync, in pieces of 65,536 bytes and by one read more for each record that lies across the
     /// end of a piece. A clean side is read once. Behind the last record of a side a gate that is
     /// open is closed, by one write and one sync, also where it then refuses; no other byte is
-    /// written, and no record is lost. It takes memory for the entries, and for the records of one
-    /// side at a time.
+    /// written, and no record is lost. It takes memory for the entries, for the records of one side
+    /// at a time, and 8 bytes for each 832 of a side for the places of every 64th record.
     ///
     /// - `NoDatabase`: the pair has no open place.
     /// - `Damaged`: by the first of these. At 0, the pair is malformed or keeps no lawful header;
@@ -133,12 +135,15 @@ fn open_sides<S: Store>(
     check_sides(store, &header)?;
     let other = open_live(alloc, store, &header)?;
     let mut entries = other.entries;
-    let active = open_active(alloc, store, &header, &mut entries)?;
+    let mut places = Places::of_side(alloc, header.side_size())?;
+    let active = open_active(alloc, store, &header, &mut entries, &mut places)?;
     let transdb = Transdb {
         header,
         pair,
         active,
         live: other.log,
+        places,
+        live_places: other.places,
     };
     Ok(OpenedTransdb {
         transdb,
@@ -250,11 +255,13 @@ fn open_side<S: Store>(
     }
 }
 
-/// What the side that isn't active holds: where it is Live its log and its entries, else nothing.
+/// What the side that isn't active holds: where it is Live its log, its entries and the places kept
+/// of its records, else nothing.
 #[derive(Debug, Drop)]
 struct LiveSide {
     log: Option<RecLog>,
     entries: List<Entry>,
+    places: Places,
 }
 
 /// The log of the other side where it is Live, and its entries. Refuses one that doesn't end where
@@ -272,11 +279,19 @@ fn open_live<S: Store>(
         (with_sides header.now header.now.other bytes)) }
     ensures opened { IfOk result
         (λ found. IsLiveOpened header.now found.log found.entries.items (S.world store.new)) }
+    ensures places { IfOk result (λ found. IfSome found.log
+        (λ log. AreWithin log found.places
+        × AreKeptIn log found.places (file_of 0 (S.world store.new)))) }
     ensures fails { FailsAsRead 0 result (S.world store.old) (S.world store.new) }
 {
     let mut entries = List::new(alloc);
+    let mut places = Places::of_side(alloc, header.side_size())?;
     if header.other != OtherSide::Live {
-        return Ok(LiveSide { log: None, entries });
+        return Ok(LiveSide {
+            log: None,
+            entries,
+            places,
+        });
     }
     let side = header.other_side();
     let found = open_side(alloc, store, header, side)?;
@@ -285,10 +300,18 @@ fn open_live<S: Store>(
             at: found.log.place(),
         });
     }
-    add_payloads(alloc, header, side, found.payloads, &mut entries)?;
+    add_payloads(
+        alloc,
+        header,
+        side,
+        found.payloads,
+        &mut entries,
+        &mut places,
+    )?;
     Ok(LiveSide {
         log: Some(found.log),
         entries,
+        places,
     })
 }
 
@@ -299,8 +322,10 @@ fn open_active<S: Store>(
     store: &mut S,
     header: &Header,
     entries: &mut List<Entry>,
+    places: &mut Places,
 ) -> Result<RecLog, TransdbError>
     requires lawful { IsTrue (is_header header.now) }
+    requires none { places.old ≡ [] }
     requires long { IfTold 0 (S.world store.old) (λ bytes. file_size header.now ≤ length bytes) }
     ensures leaves { LeavesSide header.now header.now.active result
         (S.world store.old) (S.world store.new) }
@@ -309,9 +334,18 @@ fn open_active<S: Store>(
         (side_entries header.now header.now.active bytes) result) }
     ensures opened { IfOk result (λ log. IsActiveOpened header.now log
         entries.old.items entries.new.items (S.world store.new)) }
+    ensures places { IfOk result (λ log. AreWithin log places.new
+        × AreKeptIn log places.new (file_of 0 (S.world store.new))) }
     ensures fails { FailsAsRead 0 result (S.world store.old) (S.world store.new) }
 {
     let found = open_side(alloc, store, header, header.active)?;
-    add_payloads(alloc, header, header.active, found.payloads, entries)?;
+    add_payloads(
+        alloc,
+        header,
+        header.active,
+        found.payloads,
+        entries,
+        places,
+    )?;
     Ok(found.log)
 }

@@ -1,6 +1,6 @@
 //! Reading the entries that TRANSDB holds.
-ghost use Rattle.std.specs.Prelude.{◌≡◌, ◌≢◌, ◌⊎◌, ◌+◌, ◌-◌, ◌^◌, ◌<◌, ◌≤◌, true, false, [], ◌∷◌, ◌++◌, drop, length, Err, Some, OnOk, OnErr, IfOk, IfErr, IfSome};
-ghost use Rattle.odb_device.specs.World.{file_of};
+ghost use Rattle.std.specs.Prelude.{◌≡◌, ◌≢◌, ◌⊎◌, ◌+◌, ◌-◌, ◌^◌, ◌<◌, ◌≤◌, true, false, [], ◌∷◌, ◌++◌, drop, length, slice_index, Err, Some, OnOk, OnErr, IfOk, IfErr, IfSome};
+ghost use Rattle.odb_device.specs.World.{World, file_of};
 ghost use Rattle.odb_device.specs.Calls.{FileCountRose};
 ghost use Rattle.odb_reclog.specs.Told.{IfTold, OnlyReads};
 ghost use Rattle.odb_reclog.specs.Reading.{CanRead};
@@ -10,10 +10,12 @@ ghost use Rattle.odb_reclog.specs.Windows.{Shows};
 ghost use Rattle.odb_model.specs.Width.{records_width};
 ghost use Rattle.odb_transdb.specs.Header.{side_start, first_on, first_held, active_first};
 ghost use Rattle.odb_transdb.specs.Opened.{entries_from};
+ghost use Rattle.odb_transdb.specs.Kept.{AreSteps};
 ghost use Rattle.odb_transdb.specs.Answers.{IsReadRefusal, FailsAsRead};
 ghost use Rattle.odb_transdb.specs.Leaving.{CanReadSides};
-ghost use Rattle.odb_transdb.specs.Walking.{live_read, sides_read, log_entries, log_record, IsReadOf, IsRecordOf, IsEntryOf, AddsPart, AddsPayloads, AddsSome, AreUpTo, AreSome};
+ghost use Rattle.odb_transdb.specs.Walking.{live_read, sides_read, log_entries, log_record, IsReadOf, IsRecordOf, IsEntryOf, AddsPart, AddsPayloads, AddsSome, AreUpTo, AreSome, CanBegin, CanStep};
 
+use crate::places::{Places, STEP};
 use crate::transdb::HEAD_SIZE;
 use crate::{Header, Transdb, TransdbError};
 use odb_codec::{CodecError, decode_entry};
@@ -30,8 +32,9 @@ impl Transdb {
 
     /// The entries from a number on, which is at least `first()`, in order.
     ///
-    /// It goes once over the sides that hold entries, those before the number too, in pieces of
-    /// 65,536 bytes, and takes memory for one record at a time and for the entries that it gives.
+    /// It goes once over the records that hold them, from the last place kept that isn't behind the
+    /// number, which is at most 63 records before it, and reads them in pieces of 65,536 bytes. It
+    /// takes memory for one record at a time and for the entries that it gives.
     ///
     /// A record that was in order at the opening and is so no longer counts as closed: the list
     /// ends before it. A file that is told never shows one.
@@ -66,6 +69,8 @@ impl Transdb {
             &self.header,
             &self.live,
             &self.active,
+            &self.live_places,
+            &self.places,
             from,
             &mut entries,
         ) {
@@ -86,12 +91,17 @@ fn add_sides<S: Store>(
     header: &Header,
     live: &Option<RecLog>,
     active: &RecLog,
+    live_places: &Places,
+    places: &Places,
     from: u64,
     entries: &mut List<Entry>,
 ) -> Result<(), TransdbError>
     requires readable { CanReadSides header.now live.now active.now from (S.world store.old) }
     requires usable { active.now.in_doubt ≡ false }
     requires active { LogStands active.now (file_of 0 (S.world store.old)) }
+    requires live_steps { IfSome live.now
+        (λ log. CanStep log live_places.now (S.world store.old)) }
+    requires steps { CanStep active.now places.now (S.world store.old) }
     requires none { entries.old.items ≡ [] }
     ensures run { OnlyReads 0 (S.world store.old) (S.world store.new) }
     ensures told { IfTold 0 (S.world store.old) (λ bytes. IsReadOf
@@ -104,10 +114,20 @@ fn add_sides<S: Store>(
     ensures some { AreSome from active.now.next entries.new.items }
     ensures fails { FailsAsRead 0 result (S.world store.old) (S.world store.new) }
 {
-    add_live(alloc, store, header, live, active, from, entries)?;
+    add_live(
+        alloc,
+        store,
+        header,
+        live,
+        active,
+        live_places,
+        from,
+        entries,
+    )?;
     let start = header.side_start(header.active);
     let first = header.first_on(header.active);
-    add_entries(alloc, store, active, start, first, from, entries)?;
+    let beginning = begin_at(active, places, start, first, from);
+    add_entries(alloc, store, active, beginning, from, entries)?;
     Ok(())
 }
 
@@ -118,10 +138,13 @@ fn add_live<S: Store>(
     header: &Header,
     live: &Option<RecLog>,
     active: &RecLog,
+    live_places: &Places,
     from: u64,
     entries: &mut List<Entry>,
 ) -> Result<(), TransdbError>
     requires readable { CanReadSides header.now live.now active.now from (S.world store.old) }
+    requires live_steps { IfSome live.now
+        (λ log. CanStep log live_places.now (S.world store.old)) }
     requires none { entries.old.items ≡ [] }
     ensures run { OnlyReads 0 (S.world store.old) (S.world store.new) }
     ensures told { IfTold 0 (S.world store.old) (λ bytes. IsReadOf
@@ -138,11 +161,62 @@ fn add_live<S: Store>(
     let side = header.other_side();
     let start = header.side_start(side);
     let first = header.first_on(side);
-    add_entries(alloc, store, log, start, first, from, entries)?;
+    let beginning = begin_at(log, live_places, start, first, from);
+    add_entries(alloc, store, log, beginning, from, entries)?;
     Ok(())
 }
 
-/// Goes over the list of a side, and adds those of its entries that have a number from `from` on.
+/// Where a walk over a side's records begins: a place, and the number of the record there.
+#[derive(Clone, Copy, Debug)]
+pub(crate) struct Beginning {
+    pub(crate) at: u64,
+    pub(crate) number: u64,
+}
+
+/// Where the walk over a side begins that wants its entries from a number on: where the list ends,
+/// if that comes no later; else at the last place kept that isn't behind it, or at the side's first
+/// record. The side begins at `start`, with the number `first`.
+pub(crate) fn begin_at(
+    log: &RecLog,
+    places: &Places,
+    start: u64,
+    first: u64,
+    from: u64,
+) -> Beginning
+    requires begin { (start ≡ log.now.start) × (first ≡ log.now.first) }
+    ensures { (w : World) → CanStep log.now places.now w
+        → CanBegin log.now from result.at result.number w }
+{
+    let next = log.next_number();
+    if first < next && next <= from {
+        let at = log.place();
+        return Beginning { at, number: next };
+    }
+    let steps = from.saturating_sub(first) / STEP;
+    let kept = steps.min(places.len() as u64);
+    match last_place(places, kept) {
+        Some(at) => Beginning {
+            at,
+            number: first.saturating_add(STEP.saturating_mul(kept)),
+        },
+        None => Beginning {
+            at: start,
+            number: first,
+        },
+    }
+}
+
+/// The last of the first so many places.
+fn last_place(places: &Places, count: u64) -> Option<u64>
+    ensures some { IfSome result (λ at. (1 ≤ count) × (count ≤ length places.now)
+        × (at ≡ slice_index places.now (count - 1))) }
+{
+    let last = count.checked_sub(1)?;
+    places.get(last as usize)
+}
+
+/// Goes over the list of a side from a place on, and adds those of its entries that have a number
+/// from `from` on.
 ///
 /// Refuses a place that is no record of the next number and a payload that is no entry, at the
 /// place; those before it are added then.
@@ -153,14 +227,13 @@ fn add_entries<S: Store>(
     alloc: Global,
     store: &mut S,
     log: &RecLog,
-    start: u64,
-    first: u64,
+    beginning: Beginning,
     from: u64,
     entries: &mut List<Entry>,
 ) -> Result<(), TransdbError>
     requires usable { log.now.in_doubt ≡ false }
     requires stands { LogStands log.now (file_of log.now.file (S.world store.old)) }
-    requires begin { (start ≡ log.now.start) × (first ≡ log.now.first) }
+    requires begin { CanBegin log.now from beginning.at beginning.number (S.world store.old) }
     ensures run { OnlyReads log.now.file (S.world store.old) (S.world store.new) }
     ensures told { IfTold log.now.file (S.world store.old) (λ bytes. IsReadOf
         (λ all _. entries.new.items ≡ entries.old.items ++ drop (from - log.now.first) all)
@@ -174,8 +247,8 @@ fn add_entries<S: Store>(
     let end = log.place();
     let next = log.next_number();
     let mut window = Window::new();
-    let mut at = start;
-    let mut number = first;
+    let mut at = beginning.at;
+    let mut number = beginning.number;
     while at < end {
         let record = record_at(alloc, store, log, &mut window, at, number)?;
         let entry = entry_of(alloc, record.number, &record.payload, at)?;
@@ -192,32 +265,38 @@ fn add_entries<S: Store>(
 /// Adds the entries that the payloads of a side's records are the images of, in order.
 ///
 /// Refuses a payload that is no entry, at its record's place. It makes no call of a store, and
-/// takes memory for the entries; a payload's own is given back when its entry is made.
+/// takes memory for the entries; a payload's own is given back when its entry is made. It keeps the
+/// places of the records that are to be kept, of which there are none before.
 pub(crate) fn add_payloads(
     alloc: Global,
     header: &Header,
     side: u8,
     payloads: Frozen<Bytes>,
     entries: &mut List<Entry>,
+    places: &mut Places,
 ) -> Result<(), TransdbError>
     requires side { side ≤ 1 }
+    requires none { places.old ≡ [] }
     requires numbers { first_on header.now side + length payloads < 2 ^ 64 }
     requires places { end_of_list (side_start header.now side) payloads < 2 ^ 64 }
     ensures told { IsReadOf (λ all _. entries.new.items ≡ entries.old.items ++ all)
         (entries_from (first_on header.now side) (side_start header.now side) payloads) result }
     ensures part { OnOk result (AddsPayloads header.now side payloads
         entries.old.items entries.new.items) }
+    ensures steps { OnOk result (AreSteps (side_start header.now side) payloads places.new) }
     ensures refusal { IsReadRefusal result }
     ensures cause { result ≢ Err TransdbError.Fault }
 {
+    let first = header.first_on(side);
     let mut at = header.side_start(side);
-    let mut number = header.first_on(side);
+    let mut number = first;
     for payload in payloads.into_vec() {
         let entry = entry_of(alloc, number, &payload, at)?;
         entries.reserve()?;
         entries.push(entry);
         at += HEAD_SIZE + payload.len() as u64;
         number += 1;
+        places.keep(first, number, at);
     }
     Ok(())
 }
@@ -237,7 +316,7 @@ fn add_entry(entries: &mut List<Entry>, entry: Entry, wanted: bool) -> Result<()
 }
 
 /// The record of this number at a place.
-fn record_at<S: Store>(
+pub(crate) fn record_at<S: Store>(
     alloc: Global,
     store: &mut S,
     log: &RecLog,
@@ -264,7 +343,12 @@ fn record_at<S: Store>(
 }
 
 /// The entry of this number that the payload of the record at a place is the image of.
-fn entry_of(alloc: Global, number: u64, payload: &Bytes, at: u64) -> Result<Entry, TransdbError>
+pub(crate) fn entry_of(
+    alloc: Global,
+    number: u64,
+    payload: &Bytes,
+    at: u64,
+) -> Result<Entry, TransdbError>
     ensures { IsEntryOf number payload.now at result }
 {
     match decode_entry(alloc, number, payload.as_slice()) {

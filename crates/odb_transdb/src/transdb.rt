@@ -2,6 +2,7 @@
 ghost use Rattle.std.specs.Prelude.{◌≡◌, ◌+◌, ◌-◌, ◌≤◌};
 
 use crate::Header;
+use crate::places::Places;
 use odb_model::OtherSide;
 use odb_pair::Pair;
 use odb_reclog::RecLog;
@@ -29,6 +30,10 @@ pub struct Transdb {
     pub(crate) active: RecLog,
     /// The log of the other side, where it is Live.
     pub(crate) live: Option<RecLog>,
+    /// The places kept of the active side's records.
+    pub(crate) places: Places,
+    /// Those of a Live side's records; none where none is Live.
+    pub(crate) live_places: Places,
 }
 
 impl Model for Transdb {
@@ -36,11 +41,23 @@ impl Model for Transdb {
 
     ghost Value = { Db };
 
-    ghost view = { λ t.
-        record { header = t.header; pair = t.pair; active = t.active; live = t.live } };
+    ghost view = { λ t. record {
+      header = t.header;
+      pair = t.pair;
+      active = t.active;
+      live = t.live;
+      places = t.places;
+      live_places = t.live_places;
+    } };
 
-    ghost invariant = { λ t. IsDb
-        (record { header = t.header; pair = t.pair; active = t.active; live = t.live }) };
+    ghost invariant = { λ t. IsDb (record {
+      header = t.header;
+      pair = t.pair;
+      active = t.active;
+      live = t.live;
+      places = t.places;
+      live_places = t.live_places;
+    }) };
 }
 
 impl Transdb {

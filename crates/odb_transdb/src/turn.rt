@@ -27,7 +27,8 @@ impl Transdb {
     ///
     /// It puts the new header: at most three writes and three syncs. The side is begun without a
     /// look at it, since a Clean side is zeros on the disk. At each moment a crash leaves the same
-    /// entries, under the old header or the new one. No memory is taken.
+    /// entries, under the old header or the new one. No memory is taken: what the places kept of
+    /// the Live side's records took before is there for those of the new active side.
     ///
     /// - `NotClean`: the other side isn't Clean. No call of the store was made.
     /// - `Fault`: a call of the store failed. All is as before but that the pair is unsettled: a
@@ -60,6 +61,8 @@ impl Transdb {
             Ok(()) => {
                 let active = begin_side(&header);
                 self.live = Some(mem::replace(&mut self.active, active));
+                self.live_places.clear();
+                mem::swap(&mut self.places, &mut self.live_places);
                 self.header = header;
                 Ok(())
             }

@@ -15,6 +15,3 @@ pub use error::TxnError;
 pub use laws::{judges_alike, means_as_it_writes, stands_for_transaction, tells_by_statement};
 pub use read_set::ReadSet;
 pub use transaction::Transaction;
-
-#[cfg(test)]
-mod tests;

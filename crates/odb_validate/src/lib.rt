@@ -13,6 +13,3 @@ mod window;
 pub use error::{Aged, WindowError};
 pub use laws::{finds_longest_suffix, stands_for_history};
 pub use window::{WINDOW_WRITES, Window};
-
-#[cfg(test)]
-mod tests;

@@ -1,6 +1,6 @@
 //! Lines on lines of scripts, and on replies.
 use crate::calls::{asked, replied};
-use odb_model::{Event, Head, Reply};
+use odb_model::{CopyPhase, Event, Head, Reply};
 use odb_parse::control_of;
 use odb_row_values::{LineError, number_in, put, put_bytes, put_canonical, tuples_of};
 use odb_rowfile::{number_of, split_word};
@@ -87,13 +87,85 @@ fn plain_reply(word: &str, rest: &str) -> Result<Reply, LineError> {
     if rest == "" {
         return number_reply(word, first);
     }
-    match (word, number_of(rest)) {
-        ("FULL", Some(room)) => Ok(Reply::Full { need: first, room }),
-        ("AGED", Some(start)) => Ok(Reply::Aged {
-            oldest: first,
-            start,
+    match number_of(rest) {
+        Some(second) => numbers_reply(word, first, second),
+        None => phase_reply(word, first, rest),
+    }
+}
+
+/// The reply of a word with two numbers.
+fn numbers_reply(word: &str, first: u64, second: u64) -> Result<Reply, LineError> {
+    match word {
+        "FULL" => Ok(Reply::Full {
+            need: first,
+            room: second,
         }),
+        "LOGFULL" => Ok(Reply::LogFull {
+            need: first,
+            room: second,
+        }),
+        "AGED" => Ok(Reply::Aged {
+            oldest: first,
+            start: second,
+        }),
+        "HELD" => Ok(Reply::Held {
+            mark: first,
+            last: second,
+        }),
+        "NOTHELD" => Ok(Reply::NotHeld {
+            mark: first,
+            first: second,
+        }),
+        _ => turn_reply(word, small(first)?, second),
+    }
+}
+
+/// The reply of a step on a file, or on a side, with a number.
+fn turn_reply(word: &str, file: u32, number: u64) -> Result<Reply, LineError> {
+    match word {
+        "BODIES" => Ok(Reply::Bodies { file, number }),
+        "GATES" => Ok(Reply::Gates { file, number }),
+        "MARK" => Ok(Reply::Mark { file, number }),
+        "TURNED" => Ok(Reply::Turned {
+            side: file,
+            first: number,
+        }),
+        "COPYING" => Ok(Reply::Copying { file, left: number }),
+        "COPIED" => Ok(Reply::Copied { file, mark: number }),
         _ => Err(LineError::Unreadable("no reply has this word")),
+    }
+}
+
+/// PHASE with a file and what its copy is at.
+fn phase_reply(word: &str, file: u64, phase: &str) -> Result<Reply, LineError> {
+    if word != "PHASE" {
+        return Err(LineError::Unreadable("no reply has this word"));
+    }
+    let file = small(file)?;
+    let name = phase_of(phase)?;
+    Ok(Reply::Phase { file, name })
+}
+
+fn phase_of(word: &str) -> Result<CopyPhase, LineError> {
+    match word {
+        "IDLE" => Ok(CopyPhase::Idle),
+        "BODIES" => Ok(CopyPhase::Bodies),
+        "GATES" => Ok(CopyPhase::Gates),
+        "SOURCE" => Ok(CopyPhase::Source),
+        "BLANK" => Ok(CopyPhase::Blank),
+        "FILLING" => Ok(CopyPhase::Filling),
+        "COPIED" => Ok(CopyPhase::Copied),
+        "RESTING" => Ok(CopyPhase::Resting),
+        "OUT" => Ok(CopyPhase::Out),
+        _ => Err(LineError::Unreadable("no phase has this word")),
+    }
+}
+
+/// A number of 32 bits.
+fn small(number: u64) -> Result<u32, LineError> {
+    match u32::try_from(number) {
+        Ok(number) => Ok(number),
+        Err(_) => Err(LineError::Unreadable("no file has this number")),
     }
 }
 
@@ -112,6 +184,11 @@ fn bare_reply(word: &str) -> Result<Reply, LineError> {
         "NOBANK" => Ok(Reply::NoBank),
         "NAMETAKEN" => Ok(Reply::NameTaken),
         "NOTEMPTY" => Ok(Reply::NotEmpty),
+        "NOCOPYLEFT" => Ok(Reply::NoCopyLeft),
+        "NOSHADOW" => Ok(Reply::NoShadow),
+        "NOBACKUP" => Ok(Reply::NoBackup),
+        "NOTCLEAN" => Ok(Reply::NotClean),
+        "CLEANED" => Ok(Reply::Cleaned),
         "NONUMBERLEFT" => Ok(Reply::NoNumberLeft),
         "FIXED" => Ok(Reply::Fixed),
         "NOCOLUMN" => Ok(Reply::NoColumn),
@@ -144,10 +221,13 @@ fn number_reply(word: &str, number: u64) -> Result<Reply, LineError> {
         "SYNTAX" => Ok(Reply::Syntax(number)),
         "HALTED" => Ok(Reply::Halted(number)),
         "CONFLICT" => Ok(Reply::Conflict(number)),
-        "FAULT" => match u32::try_from(number) {
-            Ok(file) => Ok(Reply::Fault(file)),
-            Err(_) => Err(LineError::Unreadable("no file has this number")),
-        },
+        "LOGGED" => Ok(Reply::Logged(number)),
+        "LOGFIRST" => Ok(Reply::LogFirst(number)),
+        "OPENED" => Ok(Reply::Opened(number)),
+        "NEEDED" => Ok(Reply::Needed(number)),
+        "FAULT" => Ok(Reply::Fault(small(number)?)),
+        "NOFILE" => Ok(Reply::NoFile(small(number)?)),
+        "LIMIT" => Ok(Reply::Limit(small(number)?)),
         _ => Err(LineError::Unreadable("no reply has this word")),
     }
 }

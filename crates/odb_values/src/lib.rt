@@ -32,6 +32,3 @@ pub use row::Row;
 pub use same::Same;
 pub use text::{Text, is_text};
 pub use value::{Value, Values, cmp_value};
-
-#[cfg(test)]
-mod tests;

@@ -29,6 +29,3 @@ pub use making::{CopySeats, Passes, WordParts};
 pub use opening::{OpenedRows, Opening};
 pub use pass_list::PassList;
 pub use seats::{BookSeat, CopySeat, Note, Pass, ViewSeat};
-
-#[cfg(test)]
-mod tests;

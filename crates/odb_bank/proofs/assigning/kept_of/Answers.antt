@@ -1,4 +1,4 @@
-use Rattle.std.proofs.Common.{List, ◌+◌, length, get_or, map, sym, subst, refl, arith}
+use Rattle.std.proofs.Common.{List, ◌+◌, length, get_or, map, sym, ◌∙◌, subst, refl, arith}
 use Rattle.std.proofs.lemmas.Option.{slice_get_read, slice_get-get_or}
 use Rattle.odb_bank.specs.declared.kept.Kept.{Kept}
 use Rattle.odb_bank.specs.Additions.{record_of}
@@ -16,4 +16,4 @@ loop-i-preserved c =
     let there = slice_get_read all (length all) i a refl (omega arith) c.index-additions-i.is in
     let slot = slice_get-get_or run i 0 (omega arith) in
     subst (λ (l : List Kept). AreKeptFor run (map record_of all) l (i + 1)) (sym c.in_ok-push.ensures.items)
-    (kept_more run (map record_of all) i (get_or run i 0) (record_of a) slot (at_map record_of all i a there) c.loop-i.kept.items c.in_ok-keeping.field-0 c.loop-i.invariant c.in_ok-keeping.ensures)
+    (kept_more run (map record_of all) i (get_or run i 0) (record_of a) slot (at_map record_of all i a there) c.loop-i.kept.items c.in_ok-new.field-0 c.loop-i.invariant (c.in_ok-new.ensures ∙ c.in_ok-it.ensures))

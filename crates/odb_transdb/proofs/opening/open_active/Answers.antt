@@ -5,7 +5,9 @@ use Rattle.odb_transdb.specs.declared.error.TransdbError.TheVariants.{Fault}
 use Rattle.odb_transdb.specs.Header.{side_start, active_first}
 use Rattle.odb_transdb.specs.Walking.{AddsPart}
 use Rattle.odb_transdb.proofs.Walking.{end_later}
+use Rattle.odb_device.specs.World.{file_of}
 use Rattle.odb_transdb.proofs.Leaving.{left_then}
+use Rattle.odb_transdb.proofs.Placed.{kept_found, within_found}
 use Rattle.odb_transdb.proofs.opening.open_active.Goals as goal
 
 pub returns-in_err-found-clause-leaves : goal.returns-in_err-found-clause-leaves
@@ -50,3 +52,15 @@ returns-clause-opened g c =
           (subst (λ (p : ℕ). AddsPart first first (first + length payloads) (p - log.start) old new) found.count.place
           (subst (λ (s : ℕ). AddsPart first first (first + length payloads) (end_of_list start payloads - s) old new) (sym found.of_side.start) c.in_ok-add_payloads.ensures.part));
     }
+
+pub returns-clause-places : goal.returns-clause-places
+returns-clause-places g c =
+    let h = c.args.header.now in
+    let found = c.in_ok-found.ensures.opened in
+    let log = c.in_ok-found.found.log in
+    let payloads = c.in_ok-found.found.payloads in
+    let places = c.add_payloads.new.places in
+    let steps = c.in_ok-add_payloads.ensures.steps in (
+      within_found h h.active log payloads places found.of_side found.count steps,
+      kept_found h h.active log payloads places (file_of 0 (g.S.Outside.world c.open_side.new.store)) found.of_side steps found.still,
+    )

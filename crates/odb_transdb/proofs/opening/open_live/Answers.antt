@@ -19,6 +19,7 @@ use Rattle.odb_transdb.specs.Opening.{EndsRight, GoesOn}
 use Rattle.odb_transdb.proofs.Opens.{told_wrong}
 use Rattle.odb_transdb.proofs.Shown.{live_refused, live_numbered}
 use Rattle.odb_transdb.proofs.Leaving.{live_log, live_reads, live_left}
+use Rattle.odb_transdb.proofs.Placed.{kept_found, within_found}
 use Rattle.odb_transdb.proofs.opening.open_live.Given.{Over}
 use Rattle.odb_transdb.proofs.opening.open_live.Goals as goal
 use Rattle.odb_transdb.proofs.opening.open_live.Goals.{After-open_side, After-add_payloads}
@@ -81,6 +82,19 @@ returns-clause-opened g c =
       numbers = live_numbered h live payloads (end_of_list (side_start h s) payloads - side_start h s) base items none (ends g at) part;
     }
 
+pub returns-clause-places : goal.returns-clause-places
+returns-clause-places g c =
+    let h = c.args.header.now in
+    let found = c.in_ok-found.ensures.opened in
+    let log = c.in_ok-found.found.log in
+    let payloads = c.in_ok-found.found.payloads in
+    let places = c.add_payloads.new.places in
+    let side = c.other_side-side.result in
+    let steps = c.in_ok-add_payloads.ensures.steps in (
+      within_found h side log payloads places found.of_side found.count steps,
+      kept_found h side log payloads places (file_of 0 (g.S.Outside.world c.open_side.new.store)) found.of_side steps found.still,
+    )
+
 -- the side's log was opened
 side_is : {T : Type 0} (g : Over) (c : After-open_side g) (result : Result T TransdbError) → c.args.header.now.other ≡ Live → (result ≢ Err Fault → c.open_side.result ≢ Err Fault)
     → LeavesOther c.args.header.now result (g.S.Outside.world c.args.store.now) (g.S.Outside.world c.open_side.new.store)
@@ -91,8 +105,8 @@ pub returns-in_err-found-clause-leaves : goal.returns-in_err-found-clause-leaves
 returns-in_err-found-clause-leaves g c =
     let live : c.args.header.now.other ≡ Live = search rules in
     let e = c.in_err-found.field-0.0 in
-    let p = err_from_is_err_and c.from_residual.result c.from_residual.ensures.1 in
-    side_is g (goal.at.returns-in_err-found-clause-leaves g c).After-open_side c.from_residual.result live
+    let p = err_from_is_err_and c.from_residual-in_err-found.result c.from_residual-in_err-found.ensures.1 in
+    side_is g (goal.at.returns-in_err-found-clause-leaves g c).After-open_side c.from_residual-in_err-found.result live
     (λ other (same : c.open_side.result ≡ Err Fault).
     let fault : e ≡ Fault = cc (c.in_err-found.was, same) in
     other (p.1 ∙ ap Err (p.2 ∙ fault)))

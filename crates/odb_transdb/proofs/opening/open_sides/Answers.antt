@@ -1,8 +1,8 @@
-use Rattle.std.proofs.Common.{◌≡◌, ◌≢◌, ℕ, ◌+◌, ◌-◌, ◌++◌, false, List, length, drop, Option, Result, Ok, Err, refl, sym, ◌∙◌, ap, subst, arith}
+use Rattle.std.proofs.Common.{◌≡◌, ◌≢◌, ℕ, ◌+◌, ◌-◌, ◌++◌, false, List, length, drop, Option, Some, Result, Ok, Err, refl, sym, ◌∙◌, ap, subst, arith}
 use Rattle.std.specs.Prelude.{IfSome}
 use Rattle.std.proofs.lemmas.Result.{err_from_is_err_and}
 use Rattle.odb_device.specs.World.{File, file_of}
-use Rattle.odb_device.proofs.Time.{run_end}
+use Rattle.odb_device.proofs.Time.{run_end, rose_behind}
 use Rattle.odb_reclog.specs.Standing.{Log}
 use Rattle.odb_model.specs.declared.entry.Entry.{Entry}
 use Rattle.odb_model.specs.State.{IsNumberedFrom}
@@ -10,21 +10,23 @@ use Rattle.odb_model.specs.Width.{records_width}
 use Rattle.odb_transdb.specs.declared.error.TransdbError.{TransdbError}
 use Rattle.odb_transdb.specs.declared.opening.LiveSide.{LiveSide}
 use Rattle.odb_transdb.specs.declared.opening.OpenedTransdb.{OpenedTransdb}
-use Rattle.odb_transdb.specs.declared.error.TransdbError.TheVariants.{Fault}
+use Rattle.odb_transdb.specs.declared.error.TransdbError.TheVariants.{NoDatabase, Damaged, Full, FaultBefore, InDoubt, NotClean, Held, Fault, NoMemory}
 use Rattle.odb_transdb.specs.Header.{side_start, side_end, first_on, active_first, first_held}
 use Rattle.odb_transdb.specs.Opened.{Opened, holding, opened}
-use Rattle.odb_transdb.specs.Answers.{IsFullAnswer, ClosesGates}
+use Rattle.odb_transdb.specs.Answers.{IsFullAnswer, IsReadRefusal, ClosesGates}
 use Rattle.odb_transdb.specs.Opening.{EndsRight, KeepsSide}
 use Rattle.odb_transdb.proofs.Opens.{gates_none, gates_then}
 use Rattle.odb_transdb.proofs.Leaving.{reads_opens, never_none, refused_left, done_left}
 use Rattle.odb_transdb.specs.Worlds.{OnlyClosesGates}
 use Rattle.odb_transdb.proofs.Opened.{HasHeader}
 use Rattle.odb_transdb.proofs.Gates.{gates_read, gates_live, active_same, gates_active}
-use Rattle.odb_transdb.proofs.Standing.{keeps_torn, some_first}
+use Rattle.odb_transdb.specs.Kept.{AreKept, AreKeptIn, AreWithin}
+use Rattle.odb_transdb.proofs.Standing.{keeps_torn, some_first, other_kept, live_side}
+use Rattle.odb_transdb.proofs.Placed.{told_live, each_live, has_places}
 use Rattle.odb_transdb.proofs.Begun.{IsOfPair, IsBegun, begun_first, begun_live, begun_active, based_first, has_first, low_side, whole_side, lives_on}
 use Rattle.odb_transdb.proofs.Headers.{lawful_is}
 use Rattle.odb_transdb.proofs.Shown.{live_still, all_numbered, active_width}
-use Rattle.odb_transdb.proofs.Finds.{refused_check, refused_live, AreOpen, HasFront, refused_rest, found_all, read_all, stands_sides, entries_sides}
+use Rattle.odb_transdb.proofs.Finds.{refused_check, refused_live, AreOpen, HasFront, refused_rest, found_all, read_all, made, stands_sides, entries_sides}
 use Rattle.odb_transdb.proofs.opening.open_sides.Given.{Over}
 use Rattle.odb_transdb.proofs.opening.open_sides.Goals as goal
 use Rattle.odb_transdb.proofs.opening.open_sides.Goals.{After-check_sides, After-open_live, After-open_active, In_ok-active}
@@ -194,6 +196,46 @@ returns-in_err-other-clause-leaves g c =
     subst (λ (o : Option File). ClosesGates o (file_of 0 w2)) (run_end 0 (λ f. f ≡ file_of 0 w) w w1 c.check_sides.ensures.run)
     (c.open_live.ensures.leaves.closed (λ same. other (cc (c.in_err-other.was, same))))) (λ none. absurd (never_none LiveSide e c.in_err-other.ensures.fails.0 none))
 
+-- want of memory for the places, once the other side was looked at
+pub returns-in_err-places-clause-leaves : goal.returns-in_err-places-clause-leaves
+returns-in_err-places-clause-leaves g c =
+    let at = goal.at.returns-in_err-places-clause-leaves g c in
+    let is = of g at.After-check_sides in
+    let w = g.S.Outside.world c.args.store.now in
+    let w1 = g.S.Outside.world c.check_sides.new.store in
+    let w2 = g.S.Outside.world c.open_live.new.store in
+    let p = err_from_is_err_and c.from_residual-in_err-places.result c.from_residual-in_err-places.ensures.1 in
+    refused_left c.from_residual-in_err-places.result NoMemory w w2 (p.1 ∙ ap Err p.2) (begun g at.After-open_live is).run (first_gates g at.After-open_live is)
+    (λ other.
+    subst (λ (o : Option File). ClosesGates o (file_of 0 w2)) (run_end 0 (λ f. f ≡ file_of 0 w) w w1 c.check_sides.ensures.run)
+    (c.in_ok-other.ensures.leaves.closed (λ (e : Ok c.in_ok-other.other ≡ Err Fault). absurd (cc e)))) (λ none. absurd (cc none))
+
+refusal_same : (T U : Type 0) (e : TransdbError) → IsReadRefusal {T = T} (Err e) → IsReadRefusal {T = U} (Err e)
+refusal_same T U NoDatabase is = is
+refusal_same T U (Damaged at) is = is
+refusal_same T U (Full need room) is = is
+refusal_same T U NotClean is = is
+refusal_same T U (Held mark last) is = is
+refusal_same T U FaultBefore is = is
+refusal_same T U (InDoubt n) is = is
+refusal_same T U Fault is = is
+refusal_same T U NoMemory is = is
+
+pub returns-in_err-active-clause-fails : goal.returns-in_err-active-clause-fails
+returns-in_err-active-clause-fails g c =
+    let at = goal.at.returns-in_err-active-clause-fails g c in
+    let is = of g at.After-check_sides in
+    let w = g.S.Outside.world c.args.store.now in
+    let w2 = g.S.Outside.world c.open_live.new.store in
+    let e = c.in_err-active.field-0.0 in
+    let p = err_from_is_err_and c.from_residual-in_err-active.result c.from_residual-in_err-active.ensures.1 in
+    let same : c.from_residual-in_err-active.result ≡ Err e = p.1 ∙ ap Err p.2 in (
+      subst IsReadRefusal (sym same) (refusal_same Log OpenedTransdb e c.in_err-active.ensures.fails.0),
+      λ fault.
+          let is_fault : e ≡ Fault = cc (same, fault) in
+          rose_behind 0 0 w w2 (g.S.Outside.world c.open_active.new.store) (begun g at.After-open_live is).run.only (c.in_err-active.ensures.fails.1 (ap Err is_fault)),
+    )
+
 pub returns-in_err-active-clause-leaves : goal.returns-in_err-active-clause-leaves
 returns-in_err-active-clause-leaves g c =
     let at = goal.at.returns-in_err-active-clause-leaves g c in
@@ -236,6 +278,24 @@ returns-clause-answer g c =
     subst (λ (l : List Entry). IfSome o (λ f. opened f.bytes ≡ holding h l)) (sym c.new.ensures)
     (found_all c.args.pair h c.in_ok-other.other.entries.items c.open_active.new.entries.items o now (front g at.After-open_active is so_far) c.in_ok-active.ensures.told)
 
+-- the places kept of a Live side are as they were found
+live_kept : (g : Over) (c : In_ok-active g) (of : IsOfPair c.args.pair c.args.header) → IfSome (file_of 0 (g.S.Outside.world c.open_active.new.store)) (λ f. IfSome c.in_ok-other.other.log (λ log. AreKept log c.in_ok-other.other.places (Some f)))
+live_kept g c of =
+    let h = c.args.header in
+    let w2 = g.S.Outside.world c.open_live.new.store in
+    let w3 = g.S.Outside.world c.open_active.new.store in
+    let live = c.in_ok-other.other.log in
+    let places = c.in_ok-other.other.places in
+    let active = c.in_ok-active.active in
+    let at = side_start h h.active in
+    let n = side_end h h.active - side_start h h.active in
+    let keeps = run_end 0 (KeepsSide h h.active (file_of 0 w2)) w2 w3 c.open_active.ensures.leaves.run in
+    let torn = keeps_torn (side_start h h.active) (side_end h h.active) (first_on h h.active) at n (file_of 0 w2) (file_of 0 w3) keeps in
+    let by = c.in_ok-other.ensures.opened.log active c.in_ok-active.ensures.opened.of_side.first in
+    other_kept h live places at n (file_of 0 w2) (file_of 0 w3) (low_side c.args.pair h of) (whole_side c.args.pair h of h.active) (live_side h h.other live active by) c.in_ok-other.ensures.opened.stands torn
+    (g.met.S.Store.reads_image c.open_active.new.store 0)
+    (told_live (λ log f. AreKept log places (Some f)) live (file_of 0 w2) (each_live (λ log. AreWithin log places × AreKeptIn log places (file_of 0 w2)) (λ log. AreKeptIn log places (file_of 0 w2)) live (λ log is. is.1) c.in_ok-other.ensures.places))
+
 pub returns-clause-opened : goal.returns-clause-opened
 returns-clause-opened g c =
     let at = goal.at.returns-clause-opened g c in
@@ -253,9 +313,10 @@ returns-clause-opened g c =
     let part = c.in_ok-active.ensures.opened.part in
     let active_is = c.in_ok-active.ensures.opened in
     record {
-      stands = stands_sides c.args.pair h c.in_ok-other.other.log active o now (are g at.In_ok-active is so_far)
+      stands = stands_sides c.args.pair h c.in_ok-other.other.log active o now (are g at.In_ok-active is so_far) c.open_active.new.places c.in_ok-other.other.places
           (record { lawful = c.requires.found.lawful; settled = c.requires.found.settled; value = c.requires.found.value; tried = c.requires.found.tried })
-          (read_all c.args.pair h items all o now (front g at.After-open_active is so_far) c.in_ok-active.ensures.told);
+          (read_all c.args.pair h items all o now (front g at.After-open_active is so_far) c.in_ok-active.ensures.told)
+          (has_places (made c.args.pair h c.in_ok-other.other.log active o now (are g at.In_ok-active is so_far) c.open_active.new.places c.in_ok-other.other.places) now c.in_ok-active.ensures.places.1 (live_kept g at.In_ok-active is));
       usable = c.in_ok-active.ensures.opened.usable;
       numbers = subst (λ (l : List Entry). IsNumberedFrom held l × (held + length l ≡ active.next)) (sym c.new.ensures)
           (all_numbered held first active.next (active.place - active.start) items all numbers.0 numbers.1 active_is.number part);

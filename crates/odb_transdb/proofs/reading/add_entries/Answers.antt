@@ -13,12 +13,12 @@ use Rattle.odb_transdb.specs.declared.error.TransdbError.{TransdbError}
 use Rattle.odb_transdb.specs.declared.error.TransdbError.TheVariants.{Damaged}
 use Rattle.odb_transdb.specs.Opened.{entries_from}
 use Rattle.odb_transdb.specs.Walking.{IsReadOf, IsRecordOf}
-use Rattle.odb_transdb.proofs.Walking.{walked_some, walked_none, walked_file, walked_place, refused_record, refused_entry, walked_more, walked_wrong}
+use Rattle.odb_transdb.proofs.Walking.{walked_some, walked_begun, walked_file, walked_place, refused_record, refused_entry, walked_more, walked_wrong}
 use Rattle.odb_transdb.proofs.reading.add_entries.Goals as goal
 
 pub loop-at-init : goal.loop-at-init
 loop-at-init g c =
-    walked_none c.args.log.now c.args.start c.args.first c.args.from c.args.entries.now.items (g.S.Outside.world c.args.store.now) c.new-window.result c.requires.begin.0 c.requires.begin.1
+    walked_begun c.args.log.now c.args.from c.args.entries.now.items (g.S.Outside.world c.args.store.now) c.new-window.result c.args.beginning.at c.args.beginning.number c.requires.begin
     (c.new-window.ensures (file_of c.args.log.now.file (g.S.Outside.world c.args.store.now)))
 
 -- what the record's call says of the file as it was at first

@@ -4,7 +4,7 @@ use Rattle.odb_device.specs.World.{World, file_of}
 use Rattle.odb_reclog.specs.Standing.{Log, Stands as LogStands}
 use Rattle.odb_model.specs.declared.entry.Entry.{Entry}
 use Rattle.odb_transdb.specs.Header.{active_first}
-use Rattle.odb_transdb.specs.Walking.{log_entries, AreSome}
+use Rattle.odb_transdb.specs.Walking.{log_entries, AreSome, CanStep}
 use Rattle.odb_transdb.proofs.Joining.{LiveIs, live_is, live_told, live_adds}
 use Rattle.odb_transdb.proofs.reading.add_live.Given.{Over}
 use Rattle.odb_transdb.proofs.reading.add_live.Goals as goal
@@ -19,6 +19,11 @@ module _ (g : Over) (c : After-add_entries g) where
 
   some : AreSome c.args.from (active_first c.args.header.now) c.add_entries.new.entries.items
   some = live_adds c.args.header.now c.in-Some.log c.args.active.now c.args.from c.args.entries.now.items c.add_entries.new.entries.items is c.requires.readable.sides.side c.requires.readable.from_held c.requires.none c.add_entries.ensures.some
+
+pub add_entries-requires-clause-begin : goal.add_entries-requires-clause-begin
+add_entries-requires-clause-begin g c =
+    let w = g.S.Outside.world c.args.store.now in
+    c.begin_at-beginning.ensures w (subst (λ (l : Option Log). IfSome l (λ log. CanStep log c.args.live_places.now w)) c.in-Some.is c.requires.live_steps)
 
 pub returns-in_err-add_entries-clause-some : goal.returns-in_err-add_entries-clause-some
 returns-in_err-add_entries-clause-some g c = some g (goal.at.returns-in_err-add_entries-clause-some g c).After-add_entries

@@ -8,6 +8,8 @@ use Rattle.odb_transdb.specs.declared.error.TransdbError.{TransdbError}
 use Rattle.odb_transdb.specs.Header.{side_start, first_on}
 use Rattle.odb_transdb.specs.Opened.{entries_from}
 use Rattle.odb_transdb.specs.Walking.{IsReadOf}
+use Rattle.odb_transdb.specs.Kept.{AreSteps}
+use Rattle.odb_transdb.proofs.Kept.{steps_none, kept_next}
 use Rattle.odb_transdb.proofs.Adding.{added_none, added_more, added_fault, ends_within, counts_within}
 use Rattle.odb_transdb.proofs.reading.add_payloads.Goals as goal
 use Rattle.odb_transdb.proofs.reading.add_payloads.Goals.{After-into_iter-payload-iterator, After-len}
@@ -18,8 +20,9 @@ begun c = c.into_iter-payload-iterator.ensures.into_iter_gives.0 ∙ c.into_vec-
 
 pub loop-payload-init : goal.loop-payload-init
 loop-payload-init c = record {
-  added = added_none (first_on c.args.header.now c.args.side) (side_start c.args.header.now c.args.side) c.side_start-at.result c.first_on-number.result (into_iter_items c.into_iter-payload-iterator.result)
-      (into_iter_items c.into_iter-payload-iterator.result) c.args.entries.now.items refl c.side_start-at.ensures c.first_on-number.ensures;
+  added = added_none (first_on c.args.header.now c.args.side) (side_start c.args.header.now c.args.side) c.side_start-at.result c.first_on-first.result (into_iter_items c.into_iter-payload-iterator.result)
+      (into_iter_items c.into_iter-payload-iterator.result) c.args.entries.now.items refl c.side_start-at.ensures c.first_on-first.ensures;
+  steps = subst (AreSteps (side_start c.args.header.now c.args.side) []) (sym c.requires.none) (steps_none (side_start c.args.header.now c.args.side) []);
   counts = search rules;
 }
 
@@ -73,8 +76,10 @@ loop-payload-preserved c =
     let e = c.in_ok-entry.entry in
     let added : c.push.new.self.items ≡ at.entries.items ++ e ∷ [] =
     ap (λ (l : Listed Entry). l.items) c.push.ensures ∙ ap (λ (l : Listed Entry). l.items ++ e ∷ []) c.in_ok-reserve.ensures.ok in
+    let next = added_more first start list at.yielded (into_iter_items at.payload-iterator) base at.entries.items at.at at.number at.invariant.added c.in-Some.payload (into_iter_items c.next.new.self) c.in-Some.ensures.steps.0
+    e c.push.new.self.items (at.at + (13 + c.len.result)) c.in_ok-entry.ensures added (omega (arith, c.len.ensures)) in
     record {
-      added = added_more first start list at.yielded (into_iter_items at.payload-iterator) base at.entries.items at.at at.number at.invariant.added c.in-Some.payload (into_iter_items c.next.new.self) c.in-Some.ensures.steps.0
-          e c.push.new.self.items (at.at + (13 + c.len.result)) c.in_ok-entry.ensures added (omega (arith, c.len.ensures));
+      added = next;
+      steps = kept_next first c.first_on-first.result start (at.number + 1) (at.at + (13 + c.len.result)) at.yielded c.in-Some.payload at.places c.keep.new.self at.invariant.steps c.first_on-first.ensures next.number_is next.place c.keep.ensures;
       counts = let short = ap (length {A = List ℕ}) c.in-Some.ensures.steps.0 in omega (arith, at.invariant.counts, short, c.in-Some.ensures.steps.1);
     }

@@ -1,15 +1,31 @@
-use Rattle.std.proofs.Common.{◌≡◌, ◌-◌, ◌++◌, ℕ, List, Ok, Option, drop, refl, subst, arith}
+use Rattle.std.proofs.Common.{◌≡◌, ◌-◌, ◌++◌, ℕ, List, Ok, Option, drop, refl, sym, subst, arith}
 use Rattle.std.specs.Prelude.{IfSome}
 use Rattle.odb_device.specs.World.{File, World, file_of}
 use Rattle.odb_device.proofs.Time.{run_end}
 use Rattle.odb_reclog.specs.Told.{OnlyReads}
 use Rattle.odb_model.specs.declared.entry.Entry.{Entry}
 use Rattle.odb_transdb.specs.Header.{active_first}
-use Rattle.odb_transdb.specs.Walking.{log_entries}
+use Rattle.odb_transdb.specs.Walking.{log_entries, ArePlaced}
 use Rattle.odb_transdb.proofs.Joining.{reads_then, both_told, both_numbers, both_some}
 use Rattle.odb_transdb.proofs.reading.add_sides.Given.{Over}
 use Rattle.odb_transdb.proofs.reading.add_sides.Goals as goal
 use Rattle.odb_transdb.proofs.reading.add_sides.Goals.{After-add_entries}
+
+-- the active side's list is as before
+pub add_entries-requires-clause-begin : goal.add_entries-requires-clause-begin
+add_entries-requires-clause-begin g c =
+    let w = g.S.Outside.world c.args.store.now in
+    let mid = g.S.Outside.world c.add_live.new.store in
+    let active = c.args.active.now in
+    let places = c.args.places.now in
+    let file : active.file ≡ 0 = c.requires.readable.sides.side.file in
+    let same : file_of 0 mid ≡ file_of 0 w = run_end 0 (λ f. f ≡ file_of 0 w) w mid c.add_live.ensures.run in
+    let told : IfSome (file_of 0 w) (λ f. ArePlaced active places f.bytes) = subst (λ (k : ℕ). IfSome (file_of k w) (λ f. ArePlaced active places f.bytes)) file c.requires.steps.told in
+    c.begin_at-beginning.ensures mid
+    (record {
+      within = c.requires.steps.within;
+      told = subst (λ (k : ℕ). IfSome (file_of k mid) (λ f. ArePlaced active places f.bytes)) (sym file) (subst (λ (o : Option File). IfSome o (λ f. ArePlaced active places f.bytes)) (sym same) told);
+    })
 
 module _ (g : Over) (c : After-add_entries g) where
   abbrev w : World

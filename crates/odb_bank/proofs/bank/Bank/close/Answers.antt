@@ -31,7 +31,7 @@ close_stale-requires g c = λ i low.
       reached = c.self.inside.reached;
       phase = c.self.inside.phase;
       run = c.self.inside.run.items;
-      slots = c.self.inside.slots.items;
+      slots = c.self.inside.slots;
     } in
     let idle : v.phase ≡ Idle = subst (λ (b : BankState). b.phase ≡ Idle) (sym c.self.view_is) c.requires.idle in
     let closing : c.args.closing.now ≡ closing_of v = subst (λ (b : BankState). c.args.closing.now ≡ closing_of b) (sym c.self.view_is) c.requires.closing in
@@ -49,20 +49,18 @@ invariant_of-self-in-Err g c =
       reached = c.self.inside.reached;
       phase = c.self.inside.phase;
       run = c.self.inside.run.items;
-      slots = c.self.inside.slots.items;
+      slots = c.self.inside.slots;
     } in
     let w = g.S.Outside.world c.args.store.now in
     let now = g.S.Outside.world c.close_stale.new.store in
     let idle : v.phase ≡ Idle = subst (λ (b : BankState). b.phase ≡ Idle) (sym c.self.view_is) c.requires.idle in
     let closing : c.args.closing.now ≡ closing_of v = subst (λ (b : BankState). c.args.closing.now ≡ closing_of b) (sym c.self.view_is) c.requires.closing in
-    let one : List Kept = c.set_gates.new.slots in
+    let one : List Kept = c.note.new.self in
     let first : one ≡ map (with_gate (closing_of v) Doubtful) v.slots =
-    c.set_gates.ensures
-    ∙ ap (map (with_gate c.args.closing.now Doubtful)) c.deref_mut.ensures.value
+    c.note.ensures
     ∙ ap (λ (r : List ℕ). map (with_gate r Doubtful) v.slots) closing in
-    let items = with_items_is c.self.inside.slots one (omega (arith, ap length first, length-map v.slots (with_gate (closing_of v) Doubtful), c.self.inside.slots.ok.0)) in
-    let slots : List Kept = (with_items c.self.inside.slots one).items in
-    sound_doubt v c.self.inside.file c.self.invariant idle slots (items ∙ first)
+    let slots : List Kept = one in
+    sound_doubt v c.self.inside.file c.self.invariant idle slots first
 
 pub invariant_of-self : goal.invariant_of-self
 invariant_of-self g c =
@@ -73,21 +71,19 @@ invariant_of-self g c =
       reached = c.self.inside.reached;
       phase = c.self.inside.phase;
       run = c.self.inside.run.items;
-      slots = c.self.inside.slots.items;
+      slots = c.self.inside.slots;
     } in
     let w = g.S.Outside.world c.args.store.now in
     let now = g.S.Outside.world c.close_stale.new.store in
     let idle : v.phase ≡ Idle = subst (λ (b : BankState). b.phase ≡ Idle) (sym c.self.view_is) c.requires.idle in
     let closing : c.args.closing.now ≡ closing_of v = subst (λ (b : BankState). c.args.closing.now ≡ closing_of b) (sym c.self.view_is) c.requires.closing in
-    let one : List Kept = c.set_gates.new.slots in
+    let one : List Kept = c.note.new.self in
     let first : one ≡ map (with_gate (closing_of v) Doubtful) v.slots =
-    c.set_gates.ensures
-    ∙ ap (map (with_gate c.args.closing.now Doubtful)) c.deref_mut.ensures.value
+    c.note.ensures
     ∙ ap (λ (r : List ℕ). map (with_gate r Doubtful) v.slots) closing in
-    let items = with_items_is c.self.inside.slots one (omega (arith, ap length first, length-map v.slots (with_gate (closing_of v) Doubtful), c.self.inside.slots.ok.0)) in
-    let slots : List Kept = (with_items c.self.inside.slots one).items in
-    let stays = c.keep_known.ensures ∙ kept_is v c.self.inside.file c.self.invariant idle slots (items ∙ first) in
-    sound_shut v c.self.inside.file c.self.invariant idle c.keep_known.new.slots.items stays
+    let slots : List Kept = one in
+    let stays = c.keep_known.ensures ∙ kept_is v c.self.inside.file c.self.invariant idle slots first in
+    sound_shut v c.self.inside.file c.self.invariant idle c.keep_known.new.slots stays
 
 pub returns-in-Err-clause-run : goal.returns-in-Err-clause-run
 returns-in-Err-clause-run g c =
@@ -98,7 +94,7 @@ returns-in-Err-clause-run g c =
       reached = c.self.inside.reached;
       phase = c.self.inside.phase;
       run = c.self.inside.run.items;
-      slots = c.self.inside.slots.items;
+      slots = c.self.inside.slots;
     } in
     let w = g.S.Outside.world c.args.store.now in
     let now = g.S.Outside.world c.close_stale.new.store in
@@ -119,7 +115,7 @@ returns-in-Ok-clause-run g c =
       reached = c.self.inside.reached;
       phase = c.self.inside.phase;
       run = c.self.inside.run.items;
-      slots = c.self.inside.slots.items;
+      slots = c.self.inside.slots;
     } in
     let w = g.S.Outside.world c.args.store.now in
     let now = g.S.Outside.world c.close_stale.new.store in
@@ -140,25 +136,23 @@ returns-in-Err-clause-stands g c =
       reached = c.self.inside.reached;
       phase = c.self.inside.phase;
       run = c.self.inside.run.items;
-      slots = c.self.inside.slots.items;
+      slots = c.self.inside.slots;
     } in
     let w = g.S.Outside.world c.args.store.now in
     let now = g.S.Outside.world c.close_stale.new.store in
     let idle : v.phase ≡ Idle = subst (λ (b : BankState). b.phase ≡ Idle) (sym c.self.view_is) c.requires.idle in
     let closing : c.args.closing.now ≡ closing_of v = subst (λ (b : BankState). c.args.closing.now ≡ closing_of b) (sym c.self.view_is) c.requires.closing in
-    let one : List Kept = c.set_gates.new.slots in
+    let one : List Kept = c.note.new.self in
     let first : one ≡ map (with_gate (closing_of v) Doubtful) v.slots =
-    c.set_gates.ensures
-    ∙ ap (map (with_gate c.args.closing.now Doubtful)) c.deref_mut.ensures.value
+    c.note.ensures
     ∙ ap (λ (r : List ℕ). map (with_gate r Doubtful) v.slots) closing in
-    let items = with_items_is c.self.inside.slots one (omega (arith, ap length first, length-map v.slots (with_gate (closing_of v) Doubtful), c.self.inside.slots.ok.0)) in
-    let slots : List Kept = (with_items c.self.inside.slots one).items in
+    let slots : List Kept = one in
     let of_file = subst (λ (l : List ℕ). TearsGates c.self.inside.file l w now) closing c.close_stale.ensures.run in
     let tears : TearsGates (file_number v) (closing_of v) w now = subst (λ (n : ℕ). TearsGates n (closing_of v) w now) (sym c.self.invariant.number) of_file in
     let torn = run_end (file_number v) (TornInFrom (GatesOf (IsOneOf (closing_of v))) (2 ^ 40) (file_of (file_number v) w)) w now tears in
     let before : Stands v (file_of (file_number v) w) = subst (λ (b : BankState). Stands b (file_of (file_number b) w)) (sym c.self.view_is) c.requires.stands in
     subst (λ (b : BankState). Stands (with_kept v slots) (file_of (file_number b) now)) c.self.view_is
-    (close_doubts v c.self.inside.file c.self.invariant idle (2 ^ 40) slots (file_of (file_number v) w) (file_of (file_number v) now) (items ∙ first) before torn)
+    (close_doubts v c.self.inside.file c.self.invariant idle (2 ^ 40) slots (file_of (file_number v) w) (file_of (file_number v) now) first before torn)
 
 pub returns-in-Err-clause-history : goal.returns-in-Err-clause-history
 returns-in-Err-clause-history g c =
@@ -169,25 +163,23 @@ returns-in-Err-clause-history g c =
       reached = c.self.inside.reached;
       phase = c.self.inside.phase;
       run = c.self.inside.run.items;
-      slots = c.self.inside.slots.items;
+      slots = c.self.inside.slots;
     } in
     let w = g.S.Outside.world c.args.store.now in
     let now = g.S.Outside.world c.close_stale.new.store in
     let idle : v.phase ≡ Idle = subst (λ (b : BankState). b.phase ≡ Idle) (sym c.self.view_is) c.requires.idle in
     let closing : c.args.closing.now ≡ closing_of v = subst (λ (b : BankState). c.args.closing.now ≡ closing_of b) (sym c.self.view_is) c.requires.closing in
-    let one : List Kept = c.set_gates.new.slots in
+    let one : List Kept = c.note.new.self in
     let first : one ≡ map (with_gate (closing_of v) Doubtful) v.slots =
-    c.set_gates.ensures
-    ∙ ap (map (with_gate c.args.closing.now Doubtful)) c.deref_mut.ensures.value
+    c.note.ensures
     ∙ ap (λ (r : List ℕ). map (with_gate r Doubtful) v.slots) closing in
-    let items = with_items_is c.self.inside.slots one (omega (arith, ap length first, length-map v.slots (with_gate (closing_of v) Doubtful), c.self.inside.slots.ok.0)) in
-    let slots : List Kept = (with_items c.self.inside.slots one).items in
+    let slots : List Kept = one in
     let of_file = subst (λ (l : List ℕ). TearsGates c.self.inside.file l w now) closing c.close_stale.ensures.run in
     let tears : TearsGates (file_number v) (closing_of v) w now = subst (λ (n : ℕ). TearsGates n (closing_of v) w now) (sym c.self.invariant.number) of_file in
     let torn = run_end (file_number v) (TornInFrom (GatesOf (IsOneOf (closing_of v))) (2 ^ 40) (file_of (file_number v) w)) w now tears in
     let marked = marked_idle v c.self.inside.file c.self.invariant idle c.limit-limit.ensures.holds (omega arith) in
     subst (λ (b : BankState). (h : History) → StandsFor h b (file_of (file_number b) w) → StandsFor h (with_kept v slots) (file_of (file_number b) now)) c.self.view_is
-    (λ h stands. history_doubt v c.self.inside.file c.self.invariant idle (2 ^ 40) marked h slots (file_of (file_number v) w) (file_of (file_number v) now) (items ∙ first) stands torn)
+    (λ h stands. history_doubt v c.self.inside.file c.self.invariant idle (2 ^ 40) marked h slots (file_of (file_number v) w) (file_of (file_number v) now) first stands torn)
 
 pub returns-in-Err-clause-broken : goal.returns-in-Err-clause-broken
 returns-in-Err-clause-broken g c =
@@ -198,21 +190,19 @@ returns-in-Err-clause-broken g c =
       reached = c.self.inside.reached;
       phase = c.self.inside.phase;
       run = c.self.inside.run.items;
-      slots = c.self.inside.slots.items;
+      slots = c.self.inside.slots;
     } in
     let w = g.S.Outside.world c.args.store.now in
     let now = g.S.Outside.world c.close_stale.new.store in
     let idle : v.phase ≡ Idle = subst (λ (b : BankState). b.phase ≡ Idle) (sym c.self.view_is) c.requires.idle in
     let closing : c.args.closing.now ≡ closing_of v = subst (λ (b : BankState). c.args.closing.now ≡ closing_of b) (sym c.self.view_is) c.requires.closing in
-    let one : List Kept = c.set_gates.new.slots in
+    let one : List Kept = c.note.new.self in
     let first : one ≡ map (with_gate (closing_of v) Doubtful) v.slots =
-    c.set_gates.ensures
-    ∙ ap (map (with_gate c.args.closing.now Doubtful)) c.deref_mut.ensures.value
+    c.note.ensures
     ∙ ap (λ (r : List ℕ). map (with_gate r Doubtful) v.slots) closing in
-    let items = with_items_is c.self.inside.slots one (omega (arith, ap length first, length-map v.slots (with_gate (closing_of v) Doubtful), c.self.inside.slots.ok.0)) in
-    let slots : List Kept = (with_items c.self.inside.slots one).items in
+    let slots : List Kept = one in
     subst (λ (b : BankState). with_kept v slots ≡ with_kept b (map (with_gate c.args.closing.now Doubtful) b.slots)) c.self.view_is
-    (ap (with_kept v) (items ∙ first ∙ ap (λ (r : List ℕ). map (with_gate r Doubtful) v.slots) (sym closing)))
+    (ap (with_kept v) (first ∙ ap (λ (r : List ℕ). map (with_gate r Doubtful) v.slots) (sym closing)))
 
 pub returns-in-Ok-clause-stands : goal.returns-in-Ok-clause-stands
 returns-in-Ok-clause-stands g c =
@@ -223,27 +213,25 @@ returns-in-Ok-clause-stands g c =
       reached = c.self.inside.reached;
       phase = c.self.inside.phase;
       run = c.self.inside.run.items;
-      slots = c.self.inside.slots.items;
+      slots = c.self.inside.slots;
     } in
     let w = g.S.Outside.world c.args.store.now in
     let now = g.S.Outside.world c.close_stale.new.store in
     let idle : v.phase ≡ Idle = subst (λ (b : BankState). b.phase ≡ Idle) (sym c.self.view_is) c.requires.idle in
     let closing : c.args.closing.now ≡ closing_of v = subst (λ (b : BankState). c.args.closing.now ≡ closing_of b) (sym c.self.view_is) c.requires.closing in
-    let one : List Kept = c.set_gates.new.slots in
+    let one : List Kept = c.note.new.self in
     let first : one ≡ map (with_gate (closing_of v) Doubtful) v.slots =
-    c.set_gates.ensures
-    ∙ ap (map (with_gate c.args.closing.now Doubtful)) c.deref_mut.ensures.value
+    c.note.ensures
     ∙ ap (λ (r : List ℕ). map (with_gate r Doubtful) v.slots) closing in
-    let items = with_items_is c.self.inside.slots one (omega (arith, ap length first, length-map v.slots (with_gate (closing_of v) Doubtful), c.self.inside.slots.ok.0)) in
-    let slots : List Kept = (with_items c.self.inside.slots one).items in
+    let slots : List Kept = one in
     let of_file = subst (λ (l : List ℕ). TearsGates c.self.inside.file l w now) closing c.close_stale.ensures.run in
     let tears : TearsGates (file_number v) (closing_of v) w now = subst (λ (n : ℕ). TearsGates n (closing_of v) w now) (sym c.self.invariant.number) of_file in
     let torn = run_end (file_number v) (TornInFrom (GatesOf (IsOneOf (closing_of v))) (2 ^ 40) (file_of (file_number v) w)) w now tears in
     let shuts = subst (λ (l : List ℕ). EachImage (HaveGates 0 l (length l)) (file_of c.self.inside.file now)) closing c.in-Ok.ensures.done in
     let done : EachImage (HaveGates 0 (closing_of v) (length (closing_of v))) (file_of (file_number v) now) =
     subst (λ (n : ℕ). EachImage (HaveGates 0 (closing_of v) (length (closing_of v))) (file_of n now)) (sym c.self.invariant.number) shuts in
-    let stays = c.keep_known.ensures ∙ kept_is v c.self.inside.file c.self.invariant idle slots (items ∙ first) in
-    let left : List Kept = c.keep_known.new.slots.items in
+    let stays = c.keep_known.ensures ∙ kept_is v c.self.inside.file c.self.invariant idle slots first in
+    let left : List Kept = c.keep_known.new.slots in
     let before : Stands v (file_of (file_number v) w) = subst (λ (b : BankState). Stands b (file_of (file_number b) w)) (sym c.self.view_is) c.requires.stands in
     subst (λ (b : BankState). Stands (with_kept v left) (file_of (file_number b) now)) c.self.view_is
     (close_shuts v c.self.inside.file c.self.invariant idle (2 ^ 40) left (file_of (file_number v) w) (file_of (file_number v) now) stays before torn done)
@@ -257,27 +245,25 @@ returns-in-Ok-clause-history g c =
       reached = c.self.inside.reached;
       phase = c.self.inside.phase;
       run = c.self.inside.run.items;
-      slots = c.self.inside.slots.items;
+      slots = c.self.inside.slots;
     } in
     let w = g.S.Outside.world c.args.store.now in
     let now = g.S.Outside.world c.close_stale.new.store in
     let idle : v.phase ≡ Idle = subst (λ (b : BankState). b.phase ≡ Idle) (sym c.self.view_is) c.requires.idle in
     let closing : c.args.closing.now ≡ closing_of v = subst (λ (b : BankState). c.args.closing.now ≡ closing_of b) (sym c.self.view_is) c.requires.closing in
-    let one : List Kept = c.set_gates.new.slots in
+    let one : List Kept = c.note.new.self in
     let first : one ≡ map (with_gate (closing_of v) Doubtful) v.slots =
-    c.set_gates.ensures
-    ∙ ap (map (with_gate c.args.closing.now Doubtful)) c.deref_mut.ensures.value
+    c.note.ensures
     ∙ ap (λ (r : List ℕ). map (with_gate r Doubtful) v.slots) closing in
-    let items = with_items_is c.self.inside.slots one (omega (arith, ap length first, length-map v.slots (with_gate (closing_of v) Doubtful), c.self.inside.slots.ok.0)) in
-    let slots : List Kept = (with_items c.self.inside.slots one).items in
+    let slots : List Kept = one in
     let of_file = subst (λ (l : List ℕ). TearsGates c.self.inside.file l w now) closing c.close_stale.ensures.run in
     let tears : TearsGates (file_number v) (closing_of v) w now = subst (λ (n : ℕ). TearsGates n (closing_of v) w now) (sym c.self.invariant.number) of_file in
     let torn = run_end (file_number v) (TornInFrom (GatesOf (IsOneOf (closing_of v))) (2 ^ 40) (file_of (file_number v) w)) w now tears in
     let shuts = subst (λ (l : List ℕ). EachImage (HaveGates 0 l (length l)) (file_of c.self.inside.file now)) closing c.in-Ok.ensures.done in
     let done : EachImage (HaveGates 0 (closing_of v) (length (closing_of v))) (file_of (file_number v) now) =
     subst (λ (n : ℕ). EachImage (HaveGates 0 (closing_of v) (length (closing_of v))) (file_of n now)) (sym c.self.invariant.number) shuts in
-    let stays = c.keep_known.ensures ∙ kept_is v c.self.inside.file c.self.invariant idle slots (items ∙ first) in
-    let left : List Kept = c.keep_known.new.slots.items in
+    let stays = c.keep_known.ensures ∙ kept_is v c.self.inside.file c.self.invariant idle slots first in
+    let left : List Kept = c.keep_known.new.slots in
     let marked = marked_idle v c.self.inside.file c.self.invariant idle c.limit-limit.ensures.holds (omega arith) in
     subst (λ (b : BankState). (h : History) → StandsFor h b (file_of (file_number b) w) → StandsFor h (with_kept v left) (file_of (file_number b) now)) c.self.view_is
     (λ h stands. history_shut v c.self.inside.file c.self.invariant idle (2 ^ 40) marked h left (file_of (file_number v) w) (file_of (file_number v) now) stays stands torn done)
@@ -291,21 +277,19 @@ returns-in-Ok-clause-closed g c =
       reached = c.self.inside.reached;
       phase = c.self.inside.phase;
       run = c.self.inside.run.items;
-      slots = c.self.inside.slots.items;
+      slots = c.self.inside.slots;
     } in
     let w = g.S.Outside.world c.args.store.now in
     let now = g.S.Outside.world c.close_stale.new.store in
     let idle : v.phase ≡ Idle = subst (λ (b : BankState). b.phase ≡ Idle) (sym c.self.view_is) c.requires.idle in
     let closing : c.args.closing.now ≡ closing_of v = subst (λ (b : BankState). c.args.closing.now ≡ closing_of b) (sym c.self.view_is) c.requires.closing in
-    let one : List Kept = c.set_gates.new.slots in
+    let one : List Kept = c.note.new.self in
     let first : one ≡ map (with_gate (closing_of v) Doubtful) v.slots =
-    c.set_gates.ensures
-    ∙ ap (map (with_gate c.args.closing.now Doubtful)) c.deref_mut.ensures.value
+    c.note.ensures
     ∙ ap (λ (r : List ℕ). map (with_gate r Doubtful) v.slots) closing in
-    let items = with_items_is c.self.inside.slots one (omega (arith, ap length first, length-map v.slots (with_gate (closing_of v) Doubtful), c.self.inside.slots.ok.0)) in
-    let slots : List Kept = (with_items c.self.inside.slots one).items in
-    let stays = c.keep_known.ensures ∙ kept_is v c.self.inside.file c.self.invariant idle slots (items ∙ first) in
-    subst (λ (b : BankState). with_kept v c.keep_known.new.slots.items ≡ with_kept b (staying_of b)) c.self.view_is
+    let slots : List Kept = one in
+    let stays = c.keep_known.ensures ∙ kept_is v c.self.inside.file c.self.invariant idle slots first in
+    subst (λ (b : BankState). with_kept v c.keep_known.new.slots ≡ with_kept b (staying_of b)) c.self.view_is
     (ap (with_kept v) stays)
 
 pub returns-in-Ok-clause-told : goal.returns-in-Ok-clause-told
@@ -317,27 +301,25 @@ returns-in-Ok-clause-told g c =
       reached = c.self.inside.reached;
       phase = c.self.inside.phase;
       run = c.self.inside.run.items;
-      slots = c.self.inside.slots.items;
+      slots = c.self.inside.slots;
     } in
     let w = g.S.Outside.world c.args.store.now in
     let now = g.S.Outside.world c.close_stale.new.store in
     let idle : v.phase ≡ Idle = subst (λ (b : BankState). b.phase ≡ Idle) (sym c.self.view_is) c.requires.idle in
     let closing : c.args.closing.now ≡ closing_of v = subst (λ (b : BankState). c.args.closing.now ≡ closing_of b) (sym c.self.view_is) c.requires.closing in
-    let one : List Kept = c.set_gates.new.slots in
+    let one : List Kept = c.note.new.self in
     let first : one ≡ map (with_gate (closing_of v) Doubtful) v.slots =
-    c.set_gates.ensures
-    ∙ ap (map (with_gate c.args.closing.now Doubtful)) c.deref_mut.ensures.value
+    c.note.ensures
     ∙ ap (λ (r : List ℕ). map (with_gate r Doubtful) v.slots) closing in
-    let items = with_items_is c.self.inside.slots one (omega (arith, ap length first, length-map v.slots (with_gate (closing_of v) Doubtful), c.self.inside.slots.ok.0)) in
-    let slots : List Kept = (with_items c.self.inside.slots one).items in
+    let slots : List Kept = one in
     let of_file = subst (λ (l : List ℕ). TearsGates c.self.inside.file l w now) closing c.close_stale.ensures.run in
     let tears : TearsGates (file_number v) (closing_of v) w now = subst (λ (n : ℕ). TearsGates n (closing_of v) w now) (sym c.self.invariant.number) of_file in
     let torn = run_end (file_number v) (TornInFrom (GatesOf (IsOneOf (closing_of v))) (2 ^ 40) (file_of (file_number v) w)) w now tears in
     let shuts = subst (λ (l : List ℕ). EachImage (HaveGates 0 l (length l)) (file_of c.self.inside.file now)) closing c.in-Ok.ensures.done in
     let done : EachImage (HaveGates 0 (closing_of v) (length (closing_of v))) (file_of (file_number v) now) =
     subst (λ (n : ℕ). EachImage (HaveGates 0 (closing_of v) (length (closing_of v))) (file_of n now)) (sym c.self.invariant.number) shuts in
-    let stays = c.keep_known.ensures ∙ kept_is v c.self.inside.file c.self.invariant idle slots (items ∙ first) in
-    let left : List Kept = c.keep_known.new.slots.items in
+    let stays = c.keep_known.ensures ∙ kept_is v c.self.inside.file c.self.invariant idle slots first in
+    let left : List Kept = c.keep_known.new.slots in
     subst (λ (b : BankState). ClosesTold b (with_kept v left) (file_of (file_number b) w) (file_of (file_number b) now)) c.self.view_is
     (closes_told v c.self.inside.file c.self.invariant idle (2 ^ 40) left (file_of (file_number v) w) (file_of (file_number v) now) stays torn done)
 
@@ -350,18 +332,16 @@ returns-in-Ok-clause-gates g c =
       reached = c.self.inside.reached;
       phase = c.self.inside.phase;
       run = c.self.inside.run.items;
-      slots = c.self.inside.slots.items;
+      slots = c.self.inside.slots;
     } in
     let w = g.S.Outside.world c.args.store.now in
     let now = g.S.Outside.world c.close_stale.new.store in
     let idle : v.phase ≡ Idle = subst (λ (b : BankState). b.phase ≡ Idle) (sym c.self.view_is) c.requires.idle in
     let closing : c.args.closing.now ≡ closing_of v = subst (λ (b : BankState). c.args.closing.now ≡ closing_of b) (sym c.self.view_is) c.requires.closing in
-    let one : List Kept = c.set_gates.new.slots in
+    let one : List Kept = c.note.new.self in
     let first : one ≡ map (with_gate (closing_of v) Doubtful) v.slots =
-    c.set_gates.ensures
-    ∙ ap (map (with_gate c.args.closing.now Doubtful)) c.deref_mut.ensures.value
+    c.note.ensures
     ∙ ap (λ (r : List ℕ). map (with_gate r Doubtful) v.slots) closing in
-    let items = with_items_is c.self.inside.slots one (omega (arith, ap length first, length-map v.slots (with_gate (closing_of v) Doubtful), c.self.inside.slots.ok.0)) in
-    let slots : List Kept = (with_items c.self.inside.slots one).items in
-    let stays = c.keep_known.ensures ∙ kept_is v c.self.inside.file c.self.invariant idle slots (items ∙ first) in
+    let slots : List Kept = one in
+    let stays = c.keep_known.ensures ∙ kept_is v c.self.inside.file c.self.invariant idle slots first in
     subst (All (λ (it : Kept). it.gate ≡ Open)) (sym stays) (stays_known v c.self.inside.file c.self.invariant idle)

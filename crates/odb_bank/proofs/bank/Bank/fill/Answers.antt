@@ -1,6 +1,8 @@
-use Rattle.std.proofs.Common.{◌≡◌, ◌≢◌, ℕ, ◌^◌, ◌<◌, List, ◌++◌, length, sym, ◌∙◌, ap, subst, arith}
+use Rattle.std.proofs.Common.{◌≡◌, ◌≢◌, ℕ, ◌^◌, ◌<◌, List, ◌++◌, length, sym, ◌∙◌, ap, subst, refl, arith}
 use Rattle.std.specs.Prelude.{map}
 use Rattle.std.specs.List.{All, AllPairs}
+use Rattle.std.specs.List.Sorted.{IsPermutation}
+use Rattle.std.proofs.lemmas.List.Sorted.{All-permutation}
 use Rattle.std.proofs.lemmas.List.{length-map}
 use Rattle.odb_device.specs.World.{file_of}
 use Rattle.odb_device.specs.Images.{EachImage}
@@ -20,7 +22,7 @@ use Rattle.odb_bank.specs.Additions.{record_of}
 use Rattle.odb_bank.specs.History.{History}
 use Rattle.odb_bank.specs.Files.{StandsAt}
 use Rattle.odb_bank.specs.Bank.{BankState, file_number, slot_limit, Stands, StandsFor}
-use Rattle.odb_bank.specs.Begun.{with_run, HasItsGate, KeepsTold, IsReady, AreTaken}
+use Rattle.odb_bank.specs.Begun.{with_run, HasRun, HasItsGate, KeepsTold, IsReady, AreTaken}
 use Rattle.odb_bank.proofs.ClosingTurn.{marked_idle}
 use Rattle.odb_bank.proofs.FillingFiles.{low_by, items_below, items_apart, items_grammar, items_room, gates_filled, filled_sound, fill_fails, fill_stands, fill_told, fill_history_fails, fill_history, fill_run}
 use Rattle.odb_bank.proofs.FillingTurn.{assigned_by, unused_by, distinct_ascending}
@@ -35,7 +37,7 @@ put_bodies-requires-clause-below g c =
       reached = c.self.inside.reached;
       phase = c.self.inside.phase;
       run = c.self.inside.run.items;
-      slots = c.self.inside.slots.items;
+      slots = c.self.inside.slots;
     } in
     let p = c.args.plan in
     let w = g.S.Outside.world c.args.store.now in
@@ -58,7 +60,7 @@ put_bodies-requires-clause-apart g c =
       reached = c.self.inside.reached;
       phase = c.self.inside.phase;
       run = c.self.inside.run.items;
-      slots = c.self.inside.slots.items;
+      slots = c.self.inside.slots;
     } in
     let p = c.args.plan in
     let w = g.S.Outside.world c.args.store.now in
@@ -81,7 +83,7 @@ put_bodies-requires-clause-grammar g c =
       reached = c.self.inside.reached;
       phase = c.self.inside.phase;
       run = c.self.inside.run.items;
-      slots = c.self.inside.slots.items;
+      slots = c.self.inside.slots;
     } in
     let p = c.args.plan in
     let w = g.S.Outside.world c.args.store.now in
@@ -104,7 +106,7 @@ put_bodies-requires-clause-room g c =
       reached = c.self.inside.reached;
       phase = c.self.inside.phase;
       run = c.self.inside.run.items;
-      slots = c.self.inside.slots.items;
+      slots = c.self.inside.slots;
     } in
     let p = c.args.plan in
     let w = g.S.Outside.world c.args.store.now in
@@ -130,7 +132,7 @@ invariant_of-self g c =
       reached = c.self.inside.reached;
       phase = c.self.inside.phase;
       run = c.self.inside.run.items;
-      slots = c.self.inside.slots.items;
+      slots = c.self.inside.slots;
     } in
     let p = c.args.plan in
     let w = g.S.Outside.world c.args.store.now in
@@ -142,9 +144,8 @@ invariant_of-self g c =
     let distinct = distinct_ascending p.run.items plan.free.ascending in
     let unused = unused_by v.slots (length p.additions.items) p.run.items plan.free in
     let low = low_by p.run.items (slot_limit v) plan.inside in
-    let slots : List Kept = c.push_all-in-Ok.new.room.items in
-    let first : c.push_all.new.room.items ≡ v.slots = c.push_all.ensures.items ∙ ap (λ (l : List Kept). l ++ c.replace-slots.result.items) (ap (λ x. x.items) c.replace-slots.ensures.after ∙ plan.empty) ∙ ap (λ x. x.items) c.replace-slots.ensures.value in
-    let same : slots ≡ v.slots ++ p.kept.items = c.push_all-in-Ok.ensures.items ∙ ap (λ (l : List Kept). l ++ p.kept.items) first in
+    let slots : List Kept = c.put_all.new.slots in
+    let same : IsPermutation (v.slots ++ p.kept.items) slots = c.put_all.ensures in
     filled_sound v c.self.inside.file c.self.invariant idle gates p.run.items records p.items.items p.kept.items assigned distinct low unused slots p.reached same plan.reached
 
 pub returns-in-Ok-clause-run : goal.returns-in-Ok-clause-run
@@ -156,7 +157,7 @@ returns-in-Ok-clause-run g c =
       reached = c.self.inside.reached;
       phase = c.self.inside.phase;
       run = c.self.inside.run.items;
-      slots = c.self.inside.slots.items;
+      slots = c.self.inside.slots;
     } in
     let p = c.args.plan in
     let w = g.S.Outside.world c.args.store.now in
@@ -184,7 +185,7 @@ returns-in-Err-clause-run g c =
       reached = c.self.inside.reached;
       phase = c.self.inside.phase;
       run = c.self.inside.run.items;
-      slots = c.self.inside.slots.items;
+      slots = c.self.inside.slots;
     } in
     let p = c.args.plan in
     let w = g.S.Outside.world c.args.store.now in
@@ -212,7 +213,7 @@ returns-in-Err-clause-stands g c =
       reached = c.self.inside.reached;
       phase = c.self.inside.phase;
       run = c.self.inside.run.items;
-      slots = c.self.inside.slots.items;
+      slots = c.self.inside.slots;
     } in
     let p = c.args.plan in
     let w = g.S.Outside.world c.args.store.now in
@@ -241,7 +242,7 @@ returns-in-Err-clause-history g c =
       reached = c.self.inside.reached;
       phase = c.self.inside.phase;
       run = c.self.inside.run.items;
-      slots = c.self.inside.slots.items;
+      slots = c.self.inside.slots;
     } in
     let p = c.args.plan in
     let w = g.S.Outside.world c.args.store.now in
@@ -270,7 +271,7 @@ returns-in-Ok-clause-stands g c =
       reached = c.self.inside.reached;
       phase = c.self.inside.phase;
       run = c.self.inside.run.items;
-      slots = c.self.inside.slots.items;
+      slots = c.self.inside.slots;
     } in
     let p = c.args.plan in
     let w = g.S.Outside.world c.args.store.now in
@@ -287,9 +288,8 @@ returns-in-Ok-clause-stands g c =
     let tears : TearsBodies (file_number v) p.items.items w now = subst (λ (n : ℕ). TearsBodies n p.items.items w now) (sym c.self.invariant.number) of_file in
     let torn = run_end (file_number v) (TornInFrom (BodiesOf (HasSlot p.items.items)) (2 ^ 40) (file_of (file_number v) w)) w now tears in
     let before : Stands v (file_of (file_number v) w) = subst (λ (b : BankState). Stands b (file_of (file_number b) w)) (sym c.self.view_is) c.requires.stands in
-    let slots : List Kept = c.push_all-in-Ok.new.room.items in
-    let first : c.push_all.new.room.items ≡ v.slots = c.push_all.ensures.items ∙ ap (λ (l : List Kept). l ++ c.replace-slots.result.items) (ap (λ x. x.items) c.replace-slots.ensures.after ∙ plan.empty) ∙ ap (λ x. x.items) c.replace-slots.ensures.value in
-    let same : slots ≡ v.slots ++ p.kept.items = c.push_all-in-Ok.ensures.items ∙ ap (λ (l : List Kept). l ++ p.kept.items) first in
+    let slots : List Kept = c.put_all.new.slots in
+    let same : IsPermutation (v.slots ++ p.kept.items) slots = c.put_all.ensures in
     let bodies = subst (λ (l : List SlotItem). EachImage (HasItems l) (file_of c.self.inside.file now)) c.as_slice.ensures.value c.in-Ok.ensures.done in
     let done : EachImage (HasItems p.items.items) (file_of (file_number v) now) = subst (λ (n : ℕ). EachImage (HasItems p.items.items) (file_of n now)) (sym c.self.invariant.number) bodies in
     subst (λ (b : BankState). Stands (with_run v slots p.run.items p.reached) (file_of (file_number b) now)) c.self.view_is
@@ -304,7 +304,7 @@ returns-in-Ok-clause-history g c =
       reached = c.self.inside.reached;
       phase = c.self.inside.phase;
       run = c.self.inside.run.items;
-      slots = c.self.inside.slots.items;
+      slots = c.self.inside.slots;
     } in
     let p = c.args.plan in
     let w = g.S.Outside.world c.args.store.now in
@@ -321,9 +321,8 @@ returns-in-Ok-clause-history g c =
     let tears : TearsBodies (file_number v) p.items.items w now = subst (λ (n : ℕ). TearsBodies n p.items.items w now) (sym c.self.invariant.number) of_file in
     let torn = run_end (file_number v) (TornInFrom (BodiesOf (HasSlot p.items.items)) (2 ^ 40) (file_of (file_number v) w)) w now tears in
     let marked = marked_idle v c.self.inside.file c.self.invariant idle c.limit-limit.ensures.holds (omega arith) in
-    let slots : List Kept = c.push_all-in-Ok.new.room.items in
-    let first : c.push_all.new.room.items ≡ v.slots = c.push_all.ensures.items ∙ ap (λ (l : List Kept). l ++ c.replace-slots.result.items) (ap (λ x. x.items) c.replace-slots.ensures.after ∙ plan.empty) ∙ ap (λ x. x.items) c.replace-slots.ensures.value in
-    let same : slots ≡ v.slots ++ p.kept.items = c.push_all-in-Ok.ensures.items ∙ ap (λ (l : List Kept). l ++ p.kept.items) first in
+    let slots : List Kept = c.put_all.new.slots in
+    let same : IsPermutation (v.slots ++ p.kept.items) slots = c.put_all.ensures in
     let bodies = subst (λ (l : List SlotItem). EachImage (HasItems l) (file_of c.self.inside.file now)) c.as_slice.ensures.value c.in-Ok.ensures.done in
     let done : EachImage (HasItems p.items.items) (file_of (file_number v) now) = subst (λ (n : ℕ). EachImage (HasItems p.items.items) (file_of n now)) (sym c.self.invariant.number) bodies in
     subst (λ (b : BankState). (h : History) (entries : List Entry) → StandsFor h b (file_of (file_number b) w) → AreTaken h b entries p → StandsFor h (with_run v slots p.run.items p.reached) (file_of (file_number b) now)) c.self.view_is
@@ -339,7 +338,7 @@ returns-in-Ok-clause-filled g c =
       reached = c.self.inside.reached;
       phase = c.self.inside.phase;
       run = c.self.inside.run.items;
-      slots = c.self.inside.slots.items;
+      slots = c.self.inside.slots;
     } in
     let p = c.args.plan in
     let w = g.S.Outside.world c.args.store.now in
@@ -351,11 +350,10 @@ returns-in-Ok-clause-filled g c =
     let distinct = distinct_ascending p.run.items plan.free.ascending in
     let unused = unused_by v.slots (length p.additions.items) p.run.items plan.free in
     let low = low_by p.run.items (slot_limit v) plan.inside in
-    let slots : List Kept = c.push_all-in-Ok.new.room.items in
-    let first : c.push_all.new.room.items ≡ v.slots = c.push_all.ensures.items ∙ ap (λ (l : List Kept). l ++ c.replace-slots.result.items) (ap (λ x. x.items) c.replace-slots.ensures.after ∙ plan.empty) ∙ ap (λ x. x.items) c.replace-slots.ensures.value in
-    let same : slots ≡ v.slots ++ p.kept.items = c.push_all-in-Ok.ensures.items ∙ ap (λ (l : List Kept). l ++ p.kept.items) first in
-    subst (λ (b : BankState). (with_run v slots p.run.items p.reached) ≡ with_run b (b.slots ++ p.kept.items) p.run.items p.reached) c.self.view_is
-    (ap (λ (l : List Kept). with_run v l p.run.items p.reached) same)
+    let slots : List Kept = c.put_all.new.slots in
+    let same : IsPermutation (v.slots ++ p.kept.items) slots = c.put_all.ensures in
+    subst (λ (b : BankState). HasRun b p.kept.items p.run.items p.reached (with_run v slots p.run.items p.reached)) c.self.view_is
+    (record { slots = same; is = refl })
 
 pub returns-in-Ok-clause-closed : goal.returns-in-Ok-clause-closed
 returns-in-Ok-clause-closed g c =
@@ -366,7 +364,7 @@ returns-in-Ok-clause-closed g c =
       reached = c.self.inside.reached;
       phase = c.self.inside.phase;
       run = c.self.inside.run.items;
-      slots = c.self.inside.slots.items;
+      slots = c.self.inside.slots;
     } in
     let p = c.args.plan in
     let w = g.S.Outside.world c.args.store.now in
@@ -378,10 +376,9 @@ returns-in-Ok-clause-closed g c =
     let distinct = distinct_ascending p.run.items plan.free.ascending in
     let unused = unused_by v.slots (length p.additions.items) p.run.items plan.free in
     let low = low_by p.run.items (slot_limit v) plan.inside in
-    let slots : List Kept = c.push_all-in-Ok.new.room.items in
-    let first : c.push_all.new.room.items ≡ v.slots = c.push_all.ensures.items ∙ ap (λ (l : List Kept). l ++ c.replace-slots.result.items) (ap (λ x. x.items) c.replace-slots.ensures.after ∙ plan.empty) ∙ ap (λ x. x.items) c.replace-slots.ensures.value in
-    let same : slots ≡ v.slots ++ p.kept.items = c.push_all-in-Ok.ensures.items ∙ ap (λ (l : List Kept). l ++ p.kept.items) first in
-    subst (All (HasItsGate p.run.items)) (sym same) (gates_filled v c.self.inside.file c.self.invariant idle gates p.run.items records p.items.items p.kept.items assigned distinct low unused)
+    let slots : List Kept = c.put_all.new.slots in
+    let same : IsPermutation (v.slots ++ p.kept.items) slots = c.put_all.ensures in
+    All-permutation (HasItsGate p.run.items) (v.slots ++ p.kept.items) slots same (gates_filled v c.self.inside.file c.self.invariant idle gates p.run.items records p.items.items p.kept.items assigned distinct low unused)
 
 pub returns-in-Ok-clause-told : goal.returns-in-Ok-clause-told
 returns-in-Ok-clause-told g c =
@@ -392,7 +389,7 @@ returns-in-Ok-clause-told g c =
       reached = c.self.inside.reached;
       phase = c.self.inside.phase;
       run = c.self.inside.run.items;
-      slots = c.self.inside.slots.items;
+      slots = c.self.inside.slots;
     } in
     let p = c.args.plan in
     let w = g.S.Outside.world c.args.store.now in
@@ -408,9 +405,8 @@ returns-in-Ok-clause-told g c =
     let of_file = subst (λ (l : List SlotItem). TearsBodies c.self.inside.file l w now) c.as_slice.ensures.value c.put_bodies.ensures.run in
     let tears : TearsBodies (file_number v) p.items.items w now = subst (λ (n : ℕ). TearsBodies n p.items.items w now) (sym c.self.invariant.number) of_file in
     let torn = run_end (file_number v) (TornInFrom (BodiesOf (HasSlot p.items.items)) (2 ^ 40) (file_of (file_number v) w)) w now tears in
-    let slots : List Kept = c.push_all-in-Ok.new.room.items in
-    let first : c.push_all.new.room.items ≡ v.slots = c.push_all.ensures.items ∙ ap (λ (l : List Kept). l ++ c.replace-slots.result.items) (ap (λ x. x.items) c.replace-slots.ensures.after ∙ plan.empty) ∙ ap (λ x. x.items) c.replace-slots.ensures.value in
-    let same : slots ≡ v.slots ++ p.kept.items = c.push_all-in-Ok.ensures.items ∙ ap (λ (l : List Kept). l ++ p.kept.items) first in
+    let slots : List Kept = c.put_all.new.slots in
+    let same : IsPermutation (v.slots ++ p.kept.items) slots = c.put_all.ensures in
     let bodies = subst (λ (l : List SlotItem). EachImage (HasItems l) (file_of c.self.inside.file now)) c.as_slice.ensures.value c.in-Ok.ensures.done in
     let done : EachImage (HasItems p.items.items) (file_of (file_number v) now) = subst (λ (n : ℕ). EachImage (HasItems p.items.items) (file_of n now)) (sym c.self.invariant.number) bodies in
     subst (λ (b : BankState). KeepsTold b (with_run v slots p.run.items p.reached) (file_of (file_number b) w) (file_of (file_number b) now)) c.self.view_is

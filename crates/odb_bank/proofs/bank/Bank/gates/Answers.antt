@@ -29,24 +29,17 @@ invariant_of-self g c =
       reached = c.self.inside.reached;
       phase = c.self.inside.phase;
       run = c.self.inside.run.items;
-      slots = c.self.inside.slots.items;
+      slots = c.self.inside.slots;
     } in
-    let one : List Kept = c.set_gates.new.slots in
+    let one : List Kept = c.note.new.self in
     let first : one ≡ map (with_gate v.run Doubtful) v.slots =
-    c.set_gates.ensures
-    ∙ ap (λ (r : List ℕ). map (with_gate r Doubtful) c.deref_mut.result.now) c.deref.ensures.value
-    ∙ ap (map (with_gate v.run Doubtful)) c.deref_mut.ensures.value in
-    let items = with_items_is c.self.inside.slots one (omega (arith, ap length first, length-map v.slots (with_gate v.run Doubtful), c.self.inside.slots.ok.0)) in
+    c.note.ensures ∙ ap (λ (r : List ℕ). map (with_gate r Doubtful) v.slots) c.deref.ensures.value in
     let phase : ◌≡◌ {A = Phase} c.self.inside.phase Bodies = search rules in
-    let both : List Kept = c.set_gates-in-Ok.new.slots in
+    let both : List Kept = c.note-in-Ok.new.self in
     let second : both ≡ map (with_gate v.run Open) (map (with_gate v.run Doubtful) v.slots) =
-    c.set_gates-in-Ok.ensures
-    ∙ ap (λ (r : List ℕ). map (with_gate r Open) c.deref_mut-in-Ok.result.now) c.deref-in-Ok.ensures.value
-    ∙ ap (map (with_gate v.run Open)) (c.deref_mut-in-Ok.ensures.value ∙ items ∙ first) in
-    let again = with_items_is (with_items c.self.inside.slots one) both
-    (omega (arith, ap length second, length-map v.slots (with_gate v.run Doubtful), length-map (map (with_gate v.run Doubtful) v.slots) (with_gate v.run Open), c.self.inside.slots.ok.0)) in
-    let slots : List Kept = (with_items (with_items c.self.inside.slots one) both).items in
-    sound_open c.self.inside.file v c.self.invariant phase slots (again ∙ second)
+    c.note-in-Ok.ensures ∙ ap (λ (r : List ℕ). map (with_gate r Open) one) c.deref-in-Ok.ensures.value ∙ ap (map (with_gate v.run Open)) first in
+    let slots : List Kept = both in
+    sound_open c.self.inside.file v c.self.invariant phase slots second
 
 pub returns-in-Err-clause-run : goal.returns-in-Err-clause-run
 returns-in-Err-clause-run g c =
@@ -57,7 +50,7 @@ returns-in-Err-clause-run g c =
       reached = c.self.inside.reached;
       phase = c.self.inside.phase;
       run = c.self.inside.run.items;
-      slots = c.self.inside.slots.items;
+      slots = c.self.inside.slots;
     } in
     let w = g.S.Outside.world c.args.store.now in
     let now = g.S.Outside.world c.open_gates.new.store in
@@ -77,24 +70,21 @@ returns-in-Err-clause-stands g c =
       reached = c.self.inside.reached;
       phase = c.self.inside.phase;
       run = c.self.inside.run.items;
-      slots = c.self.inside.slots.items;
+      slots = c.self.inside.slots;
     } in
-    let one : List Kept = c.set_gates.new.slots in
+    let one : List Kept = c.note.new.self in
     let first : one ≡ map (with_gate v.run Doubtful) v.slots =
-    c.set_gates.ensures
-    ∙ ap (λ (r : List ℕ). map (with_gate r Doubtful) c.deref_mut.result.now) c.deref.ensures.value
-    ∙ ap (map (with_gate v.run Doubtful)) c.deref_mut.ensures.value in
-    let items = with_items_is c.self.inside.slots one (omega (arith, ap length first, length-map v.slots (with_gate v.run Doubtful), c.self.inside.slots.ok.0)) in
+    c.note.ensures ∙ ap (λ (r : List ℕ). map (with_gate r Doubtful) v.slots) c.deref.ensures.value in
     let phase : ◌≡◌ {A = Phase} c.self.inside.phase Bodies = search rules in
     let w = g.S.Outside.world c.args.store.now in
     let now = g.S.Outside.world c.open_gates.new.store in
     let of_run = subst (λ (l : List ℕ). TearsGates c.self.inside.file l w now) c.as_slice.ensures.value c.open_gates.ensures.run in
     let tears : TearsGates (file_number v) v.run w now = subst (λ (n : ℕ). TearsGates n v.run w now) (sym c.self.invariant.number) of_run in
     let torn = run_end (file_number v) (TornInFrom (GatesOf (IsOneOf v.run)) (2 ^ 40) (file_of (file_number v) w)) w now tears in
-    let slots : List Kept = (with_items c.self.inside.slots one).items in
+    let slots : List Kept = one in
     let before : Stands v (file_of (file_number v) w) = subst (λ (b : BankState). Stands b (file_of (file_number b) w)) (sym c.self.view_is) c.requires in
     subst (λ (b : BankState). Stands (with_slots v v.phase slots) (file_of (file_number b) now)) c.self.view_is
-    (gates_doubt v c.self.inside.file c.self.invariant phase (2 ^ 40) v.phase slots (file_of (file_number v) w) (file_of (file_number v) now) (items ∙ first) before torn)
+    (gates_doubt v c.self.inside.file c.self.invariant phase (2 ^ 40) v.phase slots (file_of (file_number v) w) (file_of (file_number v) now) first before torn)
 
 pub returns-in-Err-clause-history : goal.returns-in-Err-clause-history
 returns-in-Err-clause-history g c =
@@ -105,24 +95,21 @@ returns-in-Err-clause-history g c =
       reached = c.self.inside.reached;
       phase = c.self.inside.phase;
       run = c.self.inside.run.items;
-      slots = c.self.inside.slots.items;
+      slots = c.self.inside.slots;
     } in
-    let one : List Kept = c.set_gates.new.slots in
+    let one : List Kept = c.note.new.self in
     let first : one ≡ map (with_gate v.run Doubtful) v.slots =
-    c.set_gates.ensures
-    ∙ ap (λ (r : List ℕ). map (with_gate r Doubtful) c.deref_mut.result.now) c.deref.ensures.value
-    ∙ ap (map (with_gate v.run Doubtful)) c.deref_mut.ensures.value in
-    let items = with_items_is c.self.inside.slots one (omega (arith, ap length first, length-map v.slots (with_gate v.run Doubtful), c.self.inside.slots.ok.0)) in
+    c.note.ensures ∙ ap (λ (r : List ℕ). map (with_gate r Doubtful) v.slots) c.deref.ensures.value in
     let phase : ◌≡◌ {A = Phase} c.self.inside.phase Bodies = search rules in
     let w = g.S.Outside.world c.args.store.now in
     let now = g.S.Outside.world c.open_gates.new.store in
     let of_run = subst (λ (l : List ℕ). TearsGates c.self.inside.file l w now) c.as_slice.ensures.value c.open_gates.ensures.run in
     let tears : TearsGates (file_number v) v.run w now = subst (λ (n : ℕ). TearsGates n v.run w now) (sym c.self.invariant.number) of_run in
     let torn = run_end (file_number v) (TornInFrom (GatesOf (IsOneOf v.run)) (2 ^ 40) (file_of (file_number v) w)) w now tears in
-    let slots : List Kept = (with_items c.self.inside.slots one).items in
+    let slots : List Kept = one in
     subst (λ (b : BankState). (h : History) → StandsFor h b (file_of (file_number b) w) → StandsFor h (with_slots v v.phase slots) (file_of (file_number b) now)) c.self.view_is
     (λ h stands. subst (λ (p : Phase). StandsFor h (with_slots v p slots) (file_of (file_number v) now)) (sym phase)
-    (history_doubts v c.self.inside.file c.self.invariant phase (2 ^ 40) (marked_so c.self.inside.file v c.self.invariant phase c.limit-limit.ensures.holds (omega arith)) h slots (file_of (file_number v) w) (file_of (file_number v) now) (items ∙ first) stands torn))
+    (history_doubts v c.self.inside.file c.self.invariant phase (2 ^ 40) (marked_so c.self.inside.file v c.self.invariant phase c.limit-limit.ensures.holds (omega arith)) h slots (file_of (file_number v) w) (file_of (file_number v) now) first stands torn))
 
 pub returns-in-Ok-clause-run : goal.returns-in-Ok-clause-run
 returns-in-Ok-clause-run g c =
@@ -133,7 +120,7 @@ returns-in-Ok-clause-run g c =
       reached = c.self.inside.reached;
       phase = c.self.inside.phase;
       run = c.self.inside.run.items;
-      slots = c.self.inside.slots.items;
+      slots = c.self.inside.slots;
     } in
     let w = g.S.Outside.world c.args.store.now in
     let now = g.S.Outside.world c.open_gates.new.store in
@@ -153,23 +140,16 @@ returns-in-Ok-clause-stands g c =
       reached = c.self.inside.reached;
       phase = c.self.inside.phase;
       run = c.self.inside.run.items;
-      slots = c.self.inside.slots.items;
+      slots = c.self.inside.slots;
     } in
-    let one : List Kept = c.set_gates.new.slots in
+    let one : List Kept = c.note.new.self in
     let first : one ≡ map (with_gate v.run Doubtful) v.slots =
-    c.set_gates.ensures
-    ∙ ap (λ (r : List ℕ). map (with_gate r Doubtful) c.deref_mut.result.now) c.deref.ensures.value
-    ∙ ap (map (with_gate v.run Doubtful)) c.deref_mut.ensures.value in
-    let items = with_items_is c.self.inside.slots one (omega (arith, ap length first, length-map v.slots (with_gate v.run Doubtful), c.self.inside.slots.ok.0)) in
+    c.note.ensures ∙ ap (λ (r : List ℕ). map (with_gate r Doubtful) v.slots) c.deref.ensures.value in
     let phase : ◌≡◌ {A = Phase} c.self.inside.phase Bodies = search rules in
-    let both : List Kept = c.set_gates-in-Ok.new.slots in
+    let both : List Kept = c.note-in-Ok.new.self in
     let second : both ≡ map (with_gate v.run Open) (map (with_gate v.run Doubtful) v.slots) =
-    c.set_gates-in-Ok.ensures
-    ∙ ap (λ (r : List ℕ). map (with_gate r Open) c.deref_mut-in-Ok.result.now) c.deref-in-Ok.ensures.value
-    ∙ ap (map (with_gate v.run Open)) (c.deref_mut-in-Ok.ensures.value ∙ items ∙ first) in
-    let again = with_items_is (with_items c.self.inside.slots one) both
-    (omega (arith, ap length second, length-map v.slots (with_gate v.run Doubtful), length-map (map (with_gate v.run Doubtful) v.slots) (with_gate v.run Open), c.self.inside.slots.ok.0)) in
-    let slots : List Kept = (with_items (with_items c.self.inside.slots one) both).items in
+    c.note-in-Ok.ensures ∙ ap (λ (r : List ℕ). map (with_gate r Open) one) c.deref-in-Ok.ensures.value ∙ ap (map (with_gate v.run Open)) first in
+    let slots : List Kept = both in
     let w = g.S.Outside.world c.args.store.now in
     let now = g.S.Outside.world c.open_gates.new.store in
     let of_run = subst (λ (l : List ℕ). TearsGates c.self.inside.file l w now) c.as_slice.ensures.value c.open_gates.ensures.run in
@@ -179,7 +159,7 @@ returns-in-Ok-clause-stands g c =
     let done : EachImage (HaveGates OPEN v.run (length v.run)) (file_of (file_number v) now) = subst (λ (n : ℕ). EachImage (HaveGates OPEN v.run (length v.run)) (file_of n now)) (sym c.self.invariant.number) opens in
     let before : Stands v (file_of (file_number v) w) = subst (λ (b : BankState). Stands b (file_of (file_number b) w)) (sym c.self.view_is) c.requires in
     subst (λ (b : BankState). Stands (with_slots v Gates slots) (file_of (file_number b) now)) c.self.view_is
-    (gates_open v c.self.inside.file c.self.invariant phase (2 ^ 40) Gates slots (file_of (file_number v) w) (file_of (file_number v) now) (again ∙ second) before torn done)
+    (gates_open v c.self.inside.file c.self.invariant phase (2 ^ 40) Gates slots (file_of (file_number v) w) (file_of (file_number v) now) second before torn done)
 
 pub returns-in-Ok-clause-history : goal.returns-in-Ok-clause-history
 returns-in-Ok-clause-history g c =
@@ -190,23 +170,16 @@ returns-in-Ok-clause-history g c =
       reached = c.self.inside.reached;
       phase = c.self.inside.phase;
       run = c.self.inside.run.items;
-      slots = c.self.inside.slots.items;
+      slots = c.self.inside.slots;
     } in
-    let one : List Kept = c.set_gates.new.slots in
+    let one : List Kept = c.note.new.self in
     let first : one ≡ map (with_gate v.run Doubtful) v.slots =
-    c.set_gates.ensures
-    ∙ ap (λ (r : List ℕ). map (with_gate r Doubtful) c.deref_mut.result.now) c.deref.ensures.value
-    ∙ ap (map (with_gate v.run Doubtful)) c.deref_mut.ensures.value in
-    let items = with_items_is c.self.inside.slots one (omega (arith, ap length first, length-map v.slots (with_gate v.run Doubtful), c.self.inside.slots.ok.0)) in
+    c.note.ensures ∙ ap (λ (r : List ℕ). map (with_gate r Doubtful) v.slots) c.deref.ensures.value in
     let phase : ◌≡◌ {A = Phase} c.self.inside.phase Bodies = search rules in
-    let both : List Kept = c.set_gates-in-Ok.new.slots in
+    let both : List Kept = c.note-in-Ok.new.self in
     let second : both ≡ map (with_gate v.run Open) (map (with_gate v.run Doubtful) v.slots) =
-    c.set_gates-in-Ok.ensures
-    ∙ ap (λ (r : List ℕ). map (with_gate r Open) c.deref_mut-in-Ok.result.now) c.deref-in-Ok.ensures.value
-    ∙ ap (map (with_gate v.run Open)) (c.deref_mut-in-Ok.ensures.value ∙ items ∙ first) in
-    let again = with_items_is (with_items c.self.inside.slots one) both
-    (omega (arith, ap length second, length-map v.slots (with_gate v.run Doubtful), length-map (map (with_gate v.run Doubtful) v.slots) (with_gate v.run Open), c.self.inside.slots.ok.0)) in
-    let slots : List Kept = (with_items (with_items c.self.inside.slots one) both).items in
+    c.note-in-Ok.ensures ∙ ap (λ (r : List ℕ). map (with_gate r Open) one) c.deref-in-Ok.ensures.value ∙ ap (map (with_gate v.run Open)) first in
+    let slots : List Kept = both in
     let w = g.S.Outside.world c.args.store.now in
     let now = g.S.Outside.world c.open_gates.new.store in
     let of_run = subst (λ (l : List ℕ). TearsGates c.self.inside.file l w now) c.as_slice.ensures.value c.open_gates.ensures.run in
@@ -215,7 +188,7 @@ returns-in-Ok-clause-history g c =
     let opens = subst (λ (l : List ℕ). EachImage (HaveGates OPEN l (length l)) (file_of c.self.inside.file now)) c.as_slice.ensures.value c.in-Ok.ensures.done in
     let done : EachImage (HaveGates OPEN v.run (length v.run)) (file_of (file_number v) now) = subst (λ (n : ℕ). EachImage (HaveGates OPEN v.run (length v.run)) (file_of n now)) (sym c.self.invariant.number) opens in
     subst (λ (b : BankState). (h : History) → StandsFor h b (file_of (file_number b) w) → StandsFor h (with_slots v Gates slots) (file_of (file_number b) now)) c.self.view_is
-    (λ h stands. history_opens v c.self.inside.file c.self.invariant phase (2 ^ 40) (marked_so c.self.inside.file v c.self.invariant phase c.limit-limit.ensures.holds (omega arith)) h slots (file_of (file_number v) w) (file_of (file_number v) now) (again ∙ second) stands torn done)
+    (λ h stands. history_opens v c.self.inside.file c.self.invariant phase (2 ^ 40) (marked_so c.self.inside.file v c.self.invariant phase c.limit-limit.ensures.holds (omega arith)) h slots (file_of (file_number v) w) (file_of (file_number v) now) second stands torn done)
 
 pub returns-in-Ok-clause-opened : goal.returns-in-Ok-clause-opened
 returns-in-Ok-clause-opened g c =
@@ -226,24 +199,17 @@ returns-in-Ok-clause-opened g c =
       reached = c.self.inside.reached;
       phase = c.self.inside.phase;
       run = c.self.inside.run.items;
-      slots = c.self.inside.slots.items;
+      slots = c.self.inside.slots;
     } in
-    let one : List Kept = c.set_gates.new.slots in
+    let one : List Kept = c.note.new.self in
     let first : one ≡ map (with_gate v.run Doubtful) v.slots =
-    c.set_gates.ensures
-    ∙ ap (λ (r : List ℕ). map (with_gate r Doubtful) c.deref_mut.result.now) c.deref.ensures.value
-    ∙ ap (map (with_gate v.run Doubtful)) c.deref_mut.ensures.value in
-    let items = with_items_is c.self.inside.slots one (omega (arith, ap length first, length-map v.slots (with_gate v.run Doubtful), c.self.inside.slots.ok.0)) in
-    let both : List Kept = c.set_gates-in-Ok.new.slots in
+    c.note.ensures ∙ ap (λ (r : List ℕ). map (with_gate r Doubtful) v.slots) c.deref.ensures.value in
+    let both : List Kept = c.note-in-Ok.new.self in
     let second : both ≡ map (with_gate v.run Open) (map (with_gate v.run Doubtful) v.slots) =
-    c.set_gates-in-Ok.ensures
-    ∙ ap (λ (r : List ℕ). map (with_gate r Open) c.deref_mut-in-Ok.result.now) c.deref-in-Ok.ensures.value
-    ∙ ap (map (with_gate v.run Open)) (c.deref_mut-in-Ok.ensures.value ∙ items ∙ first) in
-    let again = with_items_is (with_items c.self.inside.slots one) both
-    (omega (arith, ap length second, length-map v.slots (with_gate v.run Doubtful), length-map (map (with_gate v.run Doubtful) v.slots) (with_gate v.run Open), c.self.inside.slots.ok.0)) in
-    let slots : List Kept = (with_items (with_items c.self.inside.slots one) both).items in
+    c.note-in-Ok.ensures ∙ ap (λ (r : List ℕ). map (with_gate r Open) one) c.deref-in-Ok.ensures.value ∙ ap (map (with_gate v.run Open)) first in
+    let slots : List Kept = both in
     subst (λ (b : BankState). with_slots v Gates slots ≡ noted_as Gates Open b) c.self.view_is
-    (ap (with_slots v Gates) (again ∙ second ∙ again_with v.run v.slots))
+    (ap (with_slots v Gates) (second ∙ again_with v.run v.slots))
 
 pub invariant_of-self-in-Err : goal.invariant_of-self-in-Err
 invariant_of-self-in-Err g c =
@@ -254,14 +220,11 @@ invariant_of-self-in-Err g c =
       reached = c.self.inside.reached;
       phase = c.self.inside.phase;
       run = c.self.inside.run.items;
-      slots = c.self.inside.slots.items;
+      slots = c.self.inside.slots;
     } in
-    let one : List Kept = c.set_gates.new.slots in
+    let one : List Kept = c.note.new.self in
     let first : one ≡ map (with_gate v.run Doubtful) v.slots =
-    c.set_gates.ensures
-    ∙ ap (λ (r : List ℕ). map (with_gate r Doubtful) c.deref_mut.result.now) c.deref.ensures.value
-    ∙ ap (map (with_gate v.run Doubtful)) c.deref_mut.ensures.value in
-    let items = with_items_is c.self.inside.slots one (omega (arith, ap length first, length-map v.slots (with_gate v.run Doubtful), c.self.inside.slots.ok.0)) in
+    c.note.ensures ∙ ap (λ (r : List ℕ). map (with_gate r Doubtful) v.slots) c.deref.ensures.value in
     let phase : ◌≡◌ {A = Phase} c.self.inside.phase Bodies = search rules in
-    let slots : List Kept = (with_items c.self.inside.slots one).items in
-    subst (λ (p : Phase). IsSound c.self.inside.file (with_slots v p slots)) (sym phase) (sound_doubted c.self.inside.file v c.self.invariant phase slots (items ∙ first))
+    let slots : List Kept = one in
+    subst (λ (p : Phase). IsSound c.self.inside.file (with_slots v p slots)) (sym phase) (sound_doubted c.self.inside.file v c.self.invariant phase slots first)

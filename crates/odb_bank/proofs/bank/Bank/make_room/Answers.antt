@@ -20,7 +20,7 @@ grow_to-requires-clause-stands g c =
       reached = c.self.inside.reached;
       phase = c.self.inside.phase;
       run = c.self.inside.run.items;
-      slots = c.self.inside.slots.items;
+      slots = c.self.inside.slots;
     } in
     let w = g.S.Outside.world c.args.store.now in
     let before : Stands v (file_of (file_number v) w) = subst (λ (b : BankState). Stands b (file_of (file_number b) w)) (sym c.self.view_is) c.requires.stands in
@@ -35,7 +35,7 @@ invariant_of-self g c =
       reached = c.self.inside.reached;
       phase = c.self.inside.phase;
       run = c.self.inside.run.items;
-      slots = c.self.inside.slots.items;
+      slots = c.self.inside.slots;
     } in
     let w = g.S.Outside.world c.args.store.now in
     let now = g.S.Outside.world c.grow_to.new.store in
@@ -54,7 +54,7 @@ returns-clause-only g c =
       reached = c.self.inside.reached;
       phase = c.self.inside.phase;
       run = c.self.inside.run.items;
-      slots = c.self.inside.slots.items;
+      slots = c.self.inside.slots;
     } in
     let w = g.S.Outside.world c.args.store.now in
     let now = g.S.Outside.world c.grow_to.new.store in
@@ -74,7 +74,7 @@ returns-clause-run g c =
       reached = c.self.inside.reached;
       phase = c.self.inside.phase;
       run = c.self.inside.run.items;
-      slots = c.self.inside.slots.items;
+      slots = c.self.inside.slots;
     } in
     let w = g.S.Outside.world c.args.store.now in
     let now = g.S.Outside.world c.grow_to.new.store in
@@ -94,7 +94,7 @@ returns-clause-history g c =
       reached = c.self.inside.reached;
       phase = c.self.inside.phase;
       run = c.self.inside.run.items;
-      slots = c.self.inside.slots.items;
+      slots = c.self.inside.slots;
     } in
     let w = g.S.Outside.world c.args.store.now in
     let now = g.S.Outside.world c.grow_to.new.store in
@@ -114,7 +114,7 @@ returns-clause-grown g c =
       reached = c.self.inside.reached;
       phase = c.self.inside.phase;
       run = c.self.inside.run.items;
-      slots = c.self.inside.slots.items;
+      slots = c.self.inside.slots;
     } in
     let w = g.S.Outside.world c.args.store.now in
     let now = g.S.Outside.world c.grow_to.new.store in
@@ -134,7 +134,7 @@ returns-clause-told g c =
       reached = c.self.inside.reached;
       phase = c.self.inside.phase;
       run = c.self.inside.run.items;
-      slots = c.self.inside.slots.items;
+      slots = c.self.inside.slots;
     } in
     let w = g.S.Outside.world c.args.store.now in
     let now = g.S.Outside.world c.grow_to.new.store in
@@ -154,7 +154,7 @@ returns-clause-stands g c =
       reached = c.self.inside.reached;
       phase = c.self.inside.phase;
       run = c.self.inside.run.items;
-      slots = c.self.inside.slots.items;
+      slots = c.self.inside.slots;
     } in
     let w = g.S.Outside.world c.args.store.now in
     let now = g.S.Outside.world c.grow_to.new.store in

@@ -1,12 +1,10 @@
-use Rattle.std.proofs.Common.{ℕ, List, length, Some, None, subst, refl}
+use Rattle.std.proofs.Common.{ℕ, None, Some, sym, subst}
 use Rattle.std.specs.Option.{option_copied}
-use Rattle.std.proofs.lemmas.Option.{slice_get_read}
 use Rattle.odb_bank.specs.declared.kept.Kept.{Kept}
 use Rattle.odb_bank.specs.Known.{Known}
 use Rattle.odb_bank.specs.Bank.{BankState, slot_limit, AreKnownBy}
 use Rattle.odb_bank.specs.Reading.{rows_in, IsNextKey}
-use Rattle.odb_bank.specs.Choosing.{IsNearest}
-use Rattle.odb_bank.proofs.Nearest.{next_none, next_some}
+use Rattle.odb_bank.proofs.Reached.{next_none, next_some}
 use Rattle.odb_bank.proofs.bank.Bank.next_key.Goals as goal
 
 pub returns-in-None : goal.returns-in-None
@@ -18,12 +16,11 @@ returns-in-None c =
       reached = c.self.inside.reached;
       phase = c.self.inside.phase;
       run = c.self.inside.run.items;
-      slots = c.self.inside.slots.items;
+      slots = c.self.inside.slots;
     } in
     let after = option_copied c.args.after in
-    let none : IsNearest v.slots c.args.range.now after (length v.slots) None = subst (λ (l : List Kept). IsNearest l c.args.range.now after (length l) None) c.deref.ensures.value c.in-None.ensures in
     subst (λ (b : BankState). (known : ℕ → Known) → AreKnownBy b.slots known → IsNextKey (rows_in b known) c.args.range.now after None) c.self.view_is
-    (λ known are. next_none v.slots known are (slot_limit v) c.self.invariant.inside c.args.range.now after none)
+    (λ known are. next_none v.slots known are (slot_limit v) c.self.invariant.inside c.args.range.now after (sym c.in-None.ensures))
 
 pub returns-in-Some : goal.returns-in-Some
 returns-in-Some c =
@@ -34,11 +31,9 @@ returns-in-Some c =
       reached = c.self.inside.reached;
       phase = c.self.inside.phase;
       run = c.self.inside.run.items;
-      slots = c.self.inside.slots.items;
+      slots = c.self.inside.slots;
     } in
     let after = option_copied c.args.after in
-    let it : Kept = c.index.result.now in
-    let found : IsNearest v.slots c.args.range.now after (length v.slots) (Some c.in-Some.place) = subst (λ (l : List Kept). IsNearest l c.args.range.now after (length l) (Some c.in-Some.place)) c.deref.ensures.value c.in-Some.ensures in
-    let here = slice_get_read v.slots (length v.slots) c.in-Some.place it refl found.1.below c.index.ensures in
+    let it : Kept = c.in-Some.it.now in
     subst (λ (b : BankState). (known : ℕ → Known) → AreKnownBy b.slots known → IsNextKey (rows_in b known) c.args.range.now after (Some it.at.key)) c.self.view_is
-    (λ known are. next_some v.slots known are (slot_limit v) c.self.invariant.inside c.args.range.now after c.in-Some.place it here found)
+    (λ known are. next_some v.slots known are (slot_limit v) c.self.invariant.inside c.args.range.now after c.ascends.ensures it (sym c.in-Some.ensures))

@@ -12,19 +12,19 @@ use Rattle.odb_bank.proofs.bank.Bank.open.Goals as goal
 
 pub returns-in_err-slots-clause-run : goal.returns-in_err-slots-clause-run
 returns-in_err-slots-clause-run g c =
-    opening_run c.args.file (g.S.Outside.world c.args.store.now) (g.S.Outside.world c.open.new.store) (g.S.Outside.world c.slots_in.new.store) c.open.ensures.run c.slots_in.ensures.run
+    opening_run c.args.file (g.S.Outside.world c.args.store.now) (g.S.Outside.world c.open.new.store) (g.S.Outside.world c.tree_in.new.store) c.open.ensures.run c.tree_in.ensures.run
 
 pub returns-in_err-slots-clause-kept : goal.returns-in_err-slots-clause-kept
 returns-in_err-slots-clause-kept g c = λ other.
-    opening_keeps c.args.file (g.S.Outside.world c.args.store.now) (g.S.Outside.world c.open.new.store) (g.S.Outside.world c.slots_in.new.store) (c.in-Ok.ensures.kept (λ e. cc e)) c.slots_in.ensures.run
+    opening_keeps c.args.file (g.S.Outside.world c.args.store.now) (g.S.Outside.world c.open.new.store) (g.S.Outside.world c.tree_in.new.store) (c.in-Ok.ensures.kept (λ e. cc e)) c.tree_in.ensures.run
 
 pub returns-clause-kept : goal.returns-clause-kept
 returns-clause-kept g c = λ other.
-    opening_keeps c.args.file (g.S.Outside.world c.args.store.now) (g.S.Outside.world c.open.new.store) (g.S.Outside.world c.slots_in.new.store) (c.in-Ok.ensures.kept (λ e. cc e)) c.slots_in.ensures.run
+    opening_keeps c.args.file (g.S.Outside.world c.args.store.now) (g.S.Outside.world c.open.new.store) (g.S.Outside.world c.tree_in.new.store) (c.in-Ok.ensures.kept (λ e. cc e)) c.tree_in.ensures.run
 
 pub returns-clause-run : goal.returns-clause-run
 returns-clause-run g c =
-    opening_run c.args.file (g.S.Outside.world c.args.store.now) (g.S.Outside.world c.open.new.store) (g.S.Outside.world c.slots_in.new.store) c.open.ensures.run c.slots_in.ensures.run
+    opening_run c.args.file (g.S.Outside.world c.args.store.now) (g.S.Outside.world c.open.new.store) (g.S.Outside.world c.tree_in.new.store) c.open.ensures.run c.tree_in.ensures.run
 
 pub returns-clause-stands : goal.returns-clause-stands
 returns-clause-stands g c =
@@ -35,16 +35,15 @@ returns-clause-stands g c =
       reached = c.in-Some.mark;
       phase = Idle;
       run = c.new.result.items;
-      slots = c.into_vec.result.items;
+      slots = c.in_ok-slots.slots;
     } in
     let old = g.S.Outside.world c.args.store.now in
     let mid = g.S.Outside.world c.open.new.store in
-    let new = g.S.Outside.world c.slots_in.new.store in
+    let new = g.S.Outside.world c.tree_in.new.store in
     let keeps : Keeps c.args.file old mid = c.in-Ok.ensures.kept (λ e. cc e) in
     let by_limit = subst (λ (n : ℕ). IfTold c.args.file mid (AreSlotsOf c.args.number n c.in_ok-slots.slots)) c.limit.ensures.value c.in_ok-slots.ensures.answer in
-    let by_slots = subst (λ (l : List Kept). IfTold c.args.file mid (AreSlotsOf c.args.number (limit_of b.extents) l)) (sym c.into_vec.ensures) by_limit in
-    let are = kept_told c.args.file old mid (AreSlotsOf c.args.number (limit_of b.extents) b.slots) keeps by_slots in
-    opened_stands b c.args.number refl c.args.file old mid new keeps c.slots_in.ensures.run are c.in-Ok.ensures.stands
+    let are = kept_told c.args.file old mid (AreSlotsOf c.args.number (limit_of b.extents) b.slots) keeps by_limit in
+    opened_stands b c.args.number refl c.args.file old mid new keeps c.tree_in.ensures.run are c.in-Ok.ensures.stands
 
 pub returns-clause-history : goal.returns-clause-history
 returns-clause-history g c = λ h at.
@@ -55,16 +54,15 @@ returns-clause-history g c = λ h at.
       reached = c.in-Some.mark;
       phase = Idle;
       run = c.new.result.items;
-      slots = c.into_vec.result.items;
+      slots = c.in_ok-slots.slots;
     } in
     let old = g.S.Outside.world c.args.store.now in
     let mid = g.S.Outside.world c.open.new.store in
-    let new = g.S.Outside.world c.slots_in.new.store in
+    let new = g.S.Outside.world c.tree_in.new.store in
     let keeps : Keeps c.args.file old mid = c.in-Ok.ensures.kept (λ e. cc e) in
     let by_limit = subst (λ (n : ℕ). IfTold c.args.file mid (AreSlotsOf c.args.number n c.in_ok-slots.slots)) c.limit.ensures.value c.in_ok-slots.ensures.answer in
-    let by_slots = subst (λ (l : List Kept). IfTold c.args.file mid (AreSlotsOf c.args.number (limit_of b.extents) l)) (sym c.into_vec.ensures) by_limit in
-    let are = kept_told c.args.file old mid (AreSlotsOf c.args.number (limit_of b.extents) b.slots) keeps by_slots in
+    let are = kept_told c.args.file old mid (AreSlotsOf c.args.number (limit_of b.extents) b.slots) keeps by_limit in
     let found = c.in-Some.ensures.found in
     let fields : fields_of b.extents ≡ bank_image c.args.bank c.in-Some.mark = sym c.fields.ensures ∙ found.0 in
     let small : c.in-Some.mark < 2 ^ 64 = omega (arith, found.1) in
-    opened_stands_for b c.args.number refl h fields small (omega arith) refl c.args.file old mid new keeps c.slots_in.ensures.run are c.in-Ok.ensures.stands c.in-Ok.ensures.answer at
+    opened_stands_for b c.args.number refl h fields small (omega arith) refl c.args.file old mid new keeps c.tree_in.ensures.run are c.in-Ok.ensures.stands c.in-Ok.ensures.answer at

@@ -24,12 +24,12 @@ returns-then-len c =
       reached = c.self.inside.reached;
       phase = c.self.inside.phase;
       run = c.self.inside.run.items;
-      slots = c.self.inside.slots.items;
+      slots = c.self.inside.slots;
     } in
     let entries = c.args.entries.now in
     let reach : IsReachAnswer v entries (Ok c.in_ok-reached.reached) = subst (λ (b : BankState). IsReachAnswer b entries (Ok c.in_ok-reached.reached)) (sym c.self.view_is) c.in_ok-reached.ensures in
     let staying = c.in_ok-staying.staying.items in
-    let stays : staying ≡ map (λ (it : Kept). it.slot) (staying_of v) = c.in_ok-staying.ensures ∙ ap (λ (l : List Kept). map (λ (it : Kept). it.slot) (filter (λ (it : Kept). not (is_closing v.mark l it)) l)) c.deref-2.ensures.value in
+    let stays : staying ≡ map (λ (it : Kept). it.slot) (staying_of v) = c.in_ok-staying.ensures in
     let found = c.in_ok-additions.additions.items in
     subst (λ (b : BankState). IsPlanAnswer b entries (Err Limit)) c.self.view_is
     (plan_lacks v entries c.in_ok-reached.reached reach staying stays (map record_of found) c.in_ok-additions.ensures.all (omega (arith, length-map found record_of)))
@@ -43,12 +43,12 @@ returns c =
       reached = c.self.inside.reached;
       phase = c.self.inside.phase;
       run = c.self.inside.run.items;
-      slots = c.self.inside.slots.items;
+      slots = c.self.inside.slots;
     } in
     let entries = c.args.entries.now in
     let reach : IsReachAnswer v entries (Ok c.in_ok-reached.reached) = subst (λ (b : BankState). IsReachAnswer b entries (Ok c.in_ok-reached.reached)) (sym c.self.view_is) c.in_ok-reached.ensures in
     let staying = c.in_ok-staying.staying.items in
-    let stays : staying ≡ map (λ (it : Kept). it.slot) (staying_of v) = c.in_ok-staying.ensures ∙ ap (λ (l : List Kept). map (λ (it : Kept). it.slot) (filter (λ (it : Kept). not (is_closing v.mark l it)) l)) c.deref-2.ensures.value in
+    let stays : staying ≡ map (λ (it : Kept). it.slot) (staying_of v) = c.in_ok-staying.ensures in
     let found = c.in_ok-additions.additions.items in
     let p : Plan = record {
       closing = c.in_ok-closing.closing;
@@ -56,19 +56,18 @@ returns c =
       run = c.in_ok-run.run';
       items = c.in_ok-items.items;
       kept = c.in_ok-kept.kept;
-      room = c.in_ok-room.room;
       reached = c.in_ok-reached.reached;
     } in
-    let closes : p.closing.items ≡ closing_of v = c.in_ok-closing.ensures ∙ ap (λ (l : List Kept). map (λ (it : Kept). it.slot) (filter (is_closing v.mark l) l)) c.deref.ensures.value in
+    let closes : p.closing.items ≡ closing_of v = c.in_ok-closing.ensures in
     let count : c.len-3.result ≡ length found = omega arith in
     let free : AreFree staying (length found) p.run.items =
-    subst (λ (l : List ℕ). AreFree l (length found) p.run.items) c.deref-3.ensures.value
-    (subst (λ (n : ℕ). AreFree c.deref-3.result.now n p.run.items) count c.in_ok-run.ensures) in
+    subst (λ (l : List ℕ). AreFree l (length found) p.run.items) c.deref.ensures.value
+    (subst (λ (n : ℕ). AreFree c.deref.result.now n p.run.items) count c.in_ok-run.ensures) in
     let items : AreItemsFor p.run.items (map record_of found) p.items.items (length found) =
-    subst (λ (l : List ℕ). AreItemsFor l (map record_of found) p.items.items (length found)) c.deref-4.ensures.value
-    (subst (λ (l : List Addition). AreItemsFor c.deref-4.result.now (map record_of l) p.items.items (length l)) c.deref-5.ensures.value c.in_ok-items.ensures) in
+    subst (λ (l : List ℕ). AreItemsFor l (map record_of found) p.items.items (length found)) c.deref-2.ensures.value
+    (subst (λ (l : List Addition). AreItemsFor c.deref-2.result.now (map record_of l) p.items.items (length l)) c.deref-3.ensures.value c.in_ok-items.ensures) in
     let keeps : AreKeptFor p.run.items (map record_of found) p.kept.items (length found) =
-    subst (λ (l : List ℕ). AreKeptFor l (map record_of found) p.kept.items (length found)) c.deref-6.ensures.value
-    (subst (λ (l : List Addition). AreKeptFor c.deref-6.result.now (map record_of l) p.kept.items (length l)) c.deref-7.ensures.value c.in_ok-kept.ensures) in
+    subst (λ (l : List ℕ). AreKeptFor l (map record_of found) p.kept.items (length found)) c.deref-4.ensures.value
+    (subst (λ (l : List Addition). AreKeptFor c.deref-4.result.now (map record_of l) p.kept.items (length l)) c.deref-5.ensures.value c.in_ok-kept.ensures) in
     subst (λ (b : BankState). IsPlanAnswer b entries (Ok p)) c.self.view_is
-    (plan_made v entries c.in_ok-reached.reached reach staying stays p refl closes c.in_ok-additions.ensures.all (omega (arith, c.if-len.false, c.len.ensures, c.len-2.ensures)) free items keeps c.in_ok-room.ensures.items (omega (arith, c.in_ok-room.ensures.capacity, c.len-4.ensures, c.len-5.ensures)))
+    (plan_made v entries c.in_ok-reached.reached reach staying stays p refl closes c.in_ok-additions.ensures.all (omega (arith, c.if-len.false, c.len.ensures, c.len-2.ensures)) free items keeps)

@@ -22,7 +22,7 @@ returns-in-Ok-clause-run g c =
       reached = c.self.inside.reached;
       phase = c.self.inside.phase;
       run = c.self.inside.run.items;
-      slots = c.self.inside.slots.items;
+      slots = c.self.inside.slots;
     } in
     let w = g.S.Outside.world c.args.store.now in
     let now = g.S.Outside.world c.put_fields.new.store in
@@ -40,7 +40,7 @@ returns-in-Ok-clause-complete g c =
       reached = c.self.inside.reached;
       phase = c.self.inside.phase;
       run = c.self.inside.run.items;
-      slots = c.self.inside.slots.items;
+      slots = c.self.inside.slots;
     } in
     let w = g.S.Outside.world c.args.store.now in
     let now = g.S.Outside.world c.put_fields.new.store in
@@ -60,7 +60,7 @@ returns-in-Ok-clause-stands g c =
       reached = c.self.inside.reached;
       phase = c.self.inside.phase;
       run = c.self.inside.run.items;
-      slots = c.self.inside.slots.items;
+      slots = c.self.inside.slots;
     } in
     let w = g.S.Outside.world c.args.store.now in
     let now = g.S.Outside.world c.put_fields.new.store in
@@ -81,7 +81,7 @@ returns-in-Ok-clause-history g c =
       reached = c.self.inside.reached;
       phase = c.self.inside.phase;
       run = c.self.inside.run.items;
-      slots = c.self.inside.slots.items;
+      slots = c.self.inside.slots;
     } in
     let w = g.S.Outside.world c.args.store.now in
     let now = g.S.Outside.world c.put_fields.new.store in
@@ -105,7 +105,7 @@ returns-in-Err-clause-run g c =
       reached = c.self.inside.reached;
       phase = c.self.inside.phase;
       run = c.self.inside.run.items;
-      slots = c.self.inside.slots.items;
+      slots = c.self.inside.slots;
     } in
     let w = g.S.Outside.world c.args.store.now in
     let now = g.S.Outside.world c.put_fields.new.store in
@@ -123,7 +123,7 @@ returns-in-Err-clause-stands g c =
       reached = c.self.inside.reached;
       phase = c.self.inside.phase;
       run = c.self.inside.run.items;
-      slots = c.self.inside.slots.items;
+      slots = c.self.inside.slots;
     } in
     let w = g.S.Outside.world c.args.store.now in
     let now = g.S.Outside.world c.put_fields.new.store in
@@ -144,7 +144,7 @@ returns-in-Err-clause-history g c =
       reached = c.self.inside.reached;
       phase = c.self.inside.phase;
       run = c.self.inside.run.items;
-      slots = c.self.inside.slots.items;
+      slots = c.self.inside.slots;
     } in
     let w = g.S.Outside.world c.args.store.now in
     let now = g.S.Outside.world c.put_fields.new.store in

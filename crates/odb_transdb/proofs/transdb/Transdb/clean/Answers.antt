@@ -1,4 +1,4 @@
-use Rattle.std.proofs.Common.{◌≡◌, List, Result, Ok, Err, OnErr, arith}
+use Rattle.std.proofs.Common.{◌≡◌, List, Result, Ok, Err, OnErr, subst, arith}
 use Rattle.std.specs.Prelude.{is_some}
 use Rattle.odb_device.specs.World.{World, file_of}
 use Rattle.odb_device.specs.Images.{EachImage}
@@ -9,10 +9,12 @@ use Rattle.odb_model.specs.declared.entry.Entry.{Entry}
 use Rattle.odb_model.specs.declared.side.OtherSide.TheVariants.{Dirty}
 use Rattle.odb_transdb.specs.declared.error.TransdbError.{TransdbError}
 use Rattle.odb_transdb.specs.declared.error.TransdbError.TheVariants.{Fault}
+use Rattle.odb_transdb.specs.declared.header.Header.{Header}
 use Rattle.odb_transdb.specs.Standing.{Db}
-use Rattle.odb_transdb.specs.Turning.{StandsSince, EndsHeld, HoldsOneOf, IsOfClean, HasOther, RunsClean}
+use Rattle.odb_transdb.specs.Turning.{StandsSince, EndsHeld, HoldsOneOf, IsOfClean, HasOther, RunsClean, WritesOther}
 use Rattle.odb_transdb.proofs.Standing.{stands_settled}
 use Rattle.odb_transdb.proofs.Quiet.{still_clean}
+use Rattle.odb_transdb.proofs.Frame.{other_still, other_pair, other_then}
 use Rattle.odb_transdb.proofs.Composing.{ends_of, since_again, zeros_along, clean_along}
 use Rattle.odb_transdb.proofs.transdb.Transdb.clean.Given.{Over}
 use Rattle.odb_transdb.proofs.transdb.Transdb.clean.Goals as goal
@@ -56,6 +58,31 @@ module _ (g : Over) (c : After-zero_other g) where
       run = joins 0 (EachImage (HoldsOneOf (IsOfClean db) db.active.next all)) w m1 m2 first.run (zeros_along db d dirty all m1 m2 end c.zero_other.ensures.run);
       stands = since_again d all (file_of 0 m1) (file_of 0 m2) told end c.zero_other.ensures.entries c.zero_other.ensures.stands;
     }
+
+  -- the pair and the other side alone were written, under a header that has it in the same place
+  only_pair : WritesOther db.header w m1
+  only_pair = other_pair db.header w m1 c.put_dirty.ensures.only
+
+  only_zeros : WritesOther db.header w m2
+  only_zeros = other_then db.header w m1 m2 only_pair (subst (λ (h : Header). WritesOther h m1 m2) dirty.header c.zero_other.ensures.only)
+
+pub returns-then-eq-clause-only : goal.returns-then-eq-clause-only
+returns-then-eq-clause-only g c = other_still c.args.self.now.header (g.S.Outside.world c.args.store.now)
+
+pub returns-then-least-last-clause-only : goal.returns-then-least-last-clause-only
+returns-then-least-last-clause-only g c = other_still c.args.self.now.header (g.S.Outside.world c.args.store.now)
+
+pub returns-in_err-put_dirty-clause-only : goal.returns-in_err-put_dirty-clause-only
+returns-in_err-put_dirty-clause-only g c = other_pair c.args.self.now.header (g.S.Outside.world c.args.store.now) (g.S.Outside.world c.put_dirty.new.store) c.put_dirty.ensures.only
+
+pub returns-in_err-zero_other-clause-only : goal.returns-in_err-zero_other-clause-only
+returns-in_err-zero_other-clause-only g c = only_zeros g (goal.at.returns-in_err-zero_other-clause-only g c).After-zero_other
+
+pub returns-clause-only : goal.returns-clause-only
+returns-clause-only g c =
+    let a = (goal.at.returns-clause-only g c).After-zero_other in
+    let now = g.S.Outside.world c.put_clean.new.store in
+    other_then (db g a).header (w g a) (m2 g a) now (only_zeros g a) (other_pair (db g a).header (m2 g a) now c.put_clean.ensures.only)
 
 pub returns-then-eq-clause-run : goal.returns-then-eq-clause-run
 returns-then-eq-clause-run g c = λ all since. still_clean c.args.self.now all (g.S.Outside.world c.args.store.now) since

@@ -1,17 +1,21 @@
-use Rattle.std.proofs.Common.{◌≡◌, ◌-◌, ◌∙◌, ap, List, Some, Ok, Err, Option, Result, drop, sym, subst}
+use Rattle.std.proofs.Common.{◌≡◌, ℕ, ◌-◌, ◌∙◌, ap, None, List, Some, Ok, Err, Option, Result, drop, sym, subst}
 use Rattle.std.specs.Prelude.{IfSome, IsTrue}
-use Rattle.odb_device.specs.World.{File, file_of}
+use Rattle.odb_device.specs.World.{File, World, file_of}
+use Rattle.odb_reclog.specs.Standing.{Log}
 use Rattle.odb_model.specs.declared.entry.Entry.{Entry}
 use Rattle.odb_transdb.specs.declared.error.TransdbError.{TransdbError}
-use Rattle.odb_transdb.specs.Header.{is_header, first_held}
+use Rattle.odb_transdb.specs.Header.{is_header, first_held, other_of}
 use Rattle.odb_transdb.specs.Opened.{entries_in}
-use Rattle.odb_transdb.specs.Standing.{Db}
+use Rattle.odb_transdb.specs.Kept.{AreWithin}
+use Rattle.odb_transdb.specs.Standing.{Db, IsOfSide}
 use Rattle.odb_transdb.specs.Turning.{StandsSince, AreLast}
 use Rattle.odb_transdb.specs.contracts.transdb.Transdb.{the_view}
-use Rattle.odb_transdb.specs.Walking.{sides_read, IsReadOf}
+use Rattle.odb_transdb.specs.Walking.{sides_read, IsReadOf, ArePlaced, CanStep}
 use Rattle.odb_transdb.proofs.Heading.{since_log}
 use Rattle.odb_transdb.proofs.Joining.{given, never_damaged}
 use Rattle.odb_transdb.proofs.Gathered.{given_last, never_broken}
+use Rattle.odb_transdb.proofs.Placed.{active_placed, live_placed}
+use Rattle.odb_transdb.proofs.Standing.{live_side}
 use Rattle.odb_transdb.proofs.transdb.Transdb.entries.Given.{Over}
 use Rattle.odb_transdb.proofs.transdb.Transdb.entries.Goals as goal
 use Rattle.odb_transdb.proofs.transdb.Transdb.entries.Goals.{After-add_sides}
@@ -38,6 +42,32 @@ add_sides-requires-clause-active g c =
     let w = g.S.Outside.world c.args.store.now in
     let stands = c.requires.stands in
     since_log (the_view c.self.inside) stands.0 (file_of 0 w) (subst (λ (d : Db). StandsSince d stands.0 (file_of 0 w)) (sym c.self.view_is) stands.1)
+
+pub add_sides-requires-clause-steps : goal.add_sides-requires-clause-steps
+add_sides-requires-clause-steps g c =
+    let w = g.S.Outside.world c.args.store.now in
+    let db = the_view c.self.inside in
+    let stands = c.requires.stands in
+    let since = subst (λ (d : Db). StandsSince d stands.0 (file_of 0 w)) (sym c.self.view_is) stands.1 in
+    record {
+      within = c.self.invariant.places;
+      told = subst (λ (k : ℕ). IfSome (file_of k w) (λ f. ArePlaced db.active db.places f.bytes)) (sym c.self.invariant.active.file)
+          (active_placed db c.self.invariant stands.0 (file_of 0 w) since (g.met.S.Store.reads_image c.args.store.now 0));
+    }
+
+pub add_sides-requires-clause-live_steps : goal.add_sides-requires-clause-live_steps
+add_sides-requires-clause-live_steps g c =
+    let w = g.S.Outside.world c.args.store.now in
+    let db = the_view c.self.inside in
+    let stands = c.requires.stands in
+    let since = subst (λ (d : Db). StandsSince d stands.0 (file_of 0 w)) (sym c.self.view_is) stands.1 in
+    live_steps w db.live db.live_places (live_side db.header db.header.other db.live db.active c.self.invariant.live) c.self.invariant.live_places
+    (live_placed db c.self.invariant stands.0 (file_of 0 w) since (g.met.S.Store.reads_image c.args.store.now 0))
+  where
+    live_steps : (w : World) (l : Option Log) (places : List ℕ) → IfSome l (λ log. IsOfSide (the_view c.self.inside).header (other_of (the_view c.self.inside).header) log) → IfSome l (λ log. AreWithin log places)
+        → IfSome l (λ log. IfSome (file_of 0 w) (λ f. ArePlaced log places f.bytes)) → IfSome l (λ log. CanStep log places w)
+    live_steps w None places side within told = tt
+    live_steps w (Some log) places side within told = record { within = within; told = subst (λ (k : ℕ). IfSome (file_of k w) (λ f. ArePlaced log places f.bytes)) (sym side.file) told }
 
 pub returns-in-Ok-clause-entries : goal.returns-in-Ok-clause-entries
 returns-in-Ok-clause-entries g c = λ stands.

@@ -1,7 +1,8 @@
-use Rattle.std.proofs.Common.{◌≡◌, ◌<◌, false, Ok, sym, ◌∙◌, arith}
+use Rattle.std.proofs.Common.{◌≡◌, ◌<◌, false, Ok, sym, ◌∙◌, ap, arith}
 use Rattle.std.specs.Prelude.{is_err}
 use Rattle.odb_device.specs.World.{World, file_of}
 use Rattle.odb_device.specs.Calls.{FileCountRose}
+use Rattle.odb_reclog.specs.Standing.{Log}
 use Rattle.odb_codec.specs.Reading.{read_entry}
 use Rattle.odb_device.specs.Moments.{Runs}
 use Rattle.odb_model.specs.declared.entry.Entry.{Entry}
@@ -92,15 +93,16 @@ returns-in-Ok-clause-forced g c =
     let a = (goal.at.returns-in-Ok-clause-forced g c).After-open_gate in
     let e = entry_read c.args.self.now.active.next c.args.payload.now c.requires.payload in
     let ok = c.in-Ok.ensures.opened in
+    let same = c.keep_place.ensures.log in
     let settled = c.write_record.ensures.settled in
     let stands = c.in-Ok.ensures.stands e.0 (mid_written g a e.0 e.1) in
     record {
-      stands = stands;
+      stands = c.keep_place.ensures.stands (file_of 0 (now g a)) (g.met.S.Store.reads_image c.open_gate.new.store 0) stands;
       advanced = record {
-        header = header g a;
-        next = omega (arith, ok.next, settled.next);
-        place = omega (arith, ok.place, (done g a).behind);
-        usable = ok.usable;
+        header = same.header ∙ header g a;
+        next = omega (arith, ap (λ (l : Log). l.next) same.active, ok.next, settled.next);
+        place = omega (arith, ap (λ (l : Log). l.place) same.active, ok.place, (done g a).behind);
+        usable = ap (λ (l : Log). l.in_doubt) same.active ∙ ok.usable;
       };
       clear = clear_tail c.args.self.now c.write_record.new.self c.open_gate.new.self (m g a) (now g a) c.requires.placed c.write_record.ensures.placed c.open_gate.ensures.placed
           settled.header (header g a) settled.stands c.open_gate.ensures.only stands ok.place;
@@ -128,9 +130,9 @@ returns-then-is_err-clause-placed g c = record {
 
 pub returns-in-Ok-clause-placed : goal.returns-in-Ok-clause-placed
 returns-in-Ok-clause-placed g c = record {
-  header = header g (goal.at.returns-in-Ok-clause-placed g c).After-open_gate;
+  header = c.keep_place.ensures.log.header ∙ header g (goal.at.returns-in-Ok-clause-placed g c).After-open_gate;
   before = c.requires.placed;
-  after = c.open_gate.ensures.placed;
+  after = c.keep_place.ensures.placed;
 }
 
 pub returns-in-Err-clause-placed : goal.returns-in-Err-clause-placed

@@ -1,4 +1,4 @@
-use Rattle.std.proofs.Common.{◌≡◌, ℕ, List, Option, None, refl, sym, ◌∙◌, ap, subst}
+use Rattle.std.proofs.Common.{◌≡◌, ℕ, List, [], Option, None, refl, sym, ◌∙◌, ap, subst}
 use Rattle.odb_device.specs.World.{World, file_of}
 use Rattle.odb_device.specs.Images.{EachImage, ReadsImage}
 use Rattle.odb_pair.specs.Places.{Holds as PairHolds}
@@ -13,6 +13,7 @@ use Rattle.odb_transdb.specs.Standing.{Db, IsDb, Stands}
 use Rattle.odb_transdb.specs.Turning.{StandsSince, HasZeroOther, RunsClean, IsCleaned}
 use Rattle.odb_transdb.specs.contracts.transdb.Transdb.{the_view}
 use Rattle.odb_transdb.proofs.Cleaning.{no_live, clean_run, clean_left, clean_done, clean_stands}
+use Rattle.odb_transdb.proofs.Heading.{put_only}
 use Rattle.odb_transdb.proofs.Settling.{may_stand}
 use Rattle.odb_transdb.proofs.transdb.Transdb.put_clean.Given.{Over}
 use Rattle.odb_transdb.proofs.transdb.Transdb.put_clean.Goals as goal
@@ -60,7 +61,7 @@ returns-in-Ok-clause-run g c = λ all given.
     let a = (goal.at.returns-in-Ok-clause-run g c).After-put in
     let since = since_of g a all given in
     let p = c.put.new.self in
-    let made : Header → Option Log → Db = λ h l. record { header = h; pair = p; active = c.self.inside.active; live = l } in
+    let made : Header → Option Log → Db = λ h l. record { header = h; pair = p; active = c.self.inside.active; live = l; places = c.self.inside.places; live_places = c.self.inside.live_places } in
     let none = no_live (db g a) (is g a) all (value g a) (w g a) (now g a) c.put.ensures.run since (reads g a) p (its g a) (value_is g a) (dirty g a) (zeros g a) in
     let done = c.in-Ok.ensures.counts in
     subst (λ (d : Db). RunsClean all d (made c.with_other-header.result c.self.inside.live) (w g a) (now g a)) c.self.view_is
@@ -78,7 +79,7 @@ returns-in-Ok-clause-clean g c =
     let since = may_stand (db g a) file (subst (λ (d : Db). Stands d file) (sym c.self.view_is) c.requires.stands) in
     let all = entries_in file in
     let p = c.put.new.self in
-    let made : Header → Option Log → Db = λ h l. record { header = h; pair = p; active = c.self.inside.active; live = l } in
+    let made : Header → Option Log → Db = λ h l. record { header = h; pair = p; active = c.self.inside.active; live = l; places = c.self.inside.places; live_places = c.self.inside.live_places } in
     let none = no_live (db g a) (is g a) all (value g a) (w g a) (now g a) c.put.ensures.run since (reads g a) p (its g a) (value_is g a) (dirty g a) (zeros g a) in
     let done = c.in-Ok.ensures.counts in
     let holds = subst (λ (k : ℕ). EachImage (PairHolds (value g a)) (file_of k (now g a))) (is g a).file c.in-Ok.ensures.holds in
@@ -96,9 +97,15 @@ returns-in-Err-clause-run g c = λ all given.
     let a = (goal.at.returns-in-Err-clause-run g c).After-put in
     let since = since_of g a all given in
     let p = c.put.new.self in
-    let made : Db = record { header = c.self.inside.header; pair = p; active = c.self.inside.active; live = c.self.inside.live } in
+    let made : Db = record { header = c.self.inside.header; pair = p; active = c.self.inside.active; live = c.self.inside.live; places = c.self.inside.places; live_places = c.self.inside.live_places } in
     subst (λ (d : Db). RunsClean all d made (w g a) (now g a)) c.self.view_is
     (record {
       run = clean_run (db g a) (is g a) all (value g a) (w g a) (now g a) c.put.ensures.run since (reads g a) p (its g a) (value_is g a) (dirty g a) (zeros g a);
       stands = clean_left (db g a) (is g a) all (value g a) (w g a) (now g a) c.put.ensures.run since (reads g a) p (its g a) (value_is g a) (dirty g a) (zeros g a) c.in-Err.ensures.unsettled;
     })
+
+pub returns-in-Ok-clause-only : goal.returns-in-Ok-clause-only
+returns-in-Ok-clause-only g c = put_only (the_view c.self.inside) [] c.image-image.result (g.S.Outside.world c.args.store.now) (g.S.Outside.world c.put.new.store) c.self.invariant.file c.put.ensures.run
+
+pub returns-in-Err-clause-only : goal.returns-in-Err-clause-only
+returns-in-Err-clause-only g c = put_only (the_view c.self.inside) [] c.image-image.result (g.S.Outside.world c.args.store.now) (g.S.Outside.world c.put.new.store) c.self.invariant.file c.put.ensures.run

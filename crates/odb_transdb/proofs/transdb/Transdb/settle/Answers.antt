@@ -82,7 +82,7 @@ module _ (g : Over) (c : After-put g) where
   its = subst (λ (k : ℕ). EachImage (PairStandsFor pair) (file_of k now)) is.file c.put.ensures.stands
 
   abbrev made : Db
-  made = record { header = db.header; pair = pair; active = db.active; live = db.live }
+  made = record { header = db.header; pair = pair; active = db.active; live = db.live; places = db.places; live_places = db.live_places }
 
   module _ (all : List Entry) (given : StandsSince c.args.self.now all (file_of 0 w)) where
     since : StandsSince db all (file_of 0 w)
@@ -97,7 +97,7 @@ module _ (g : Over) (c : After-put g) where
           stands = by_result (pair ≡ after_put db.pair value) (LeavesUnsettled value db.pair pair) (StandsSince made all (file_of 0 now)) c.put.result
               (λ done. same_done db is all value w now c.put.ensures.run since reads pair its value_is (ap (λ (p : PairState). p.value) done) (ap (λ (p : PairState). p.tried) done))
               (λ left. same_left db is all value w now c.put.ensures.run since reads pair its value_is left) c.put.ensures.counts c.put.ensures.unsettled;
-          sides = record { header = refl; active = refl; live = refl };
+          sides = record { header = refl; active = refl; live = refl; places = refl; live_places = refl };
         })
 
     done_stands : pair ≡ after_put db.pair value → EachImage (PairHolds value) (file_of db.pair.file now) → Stands made (file_of 0 now)

@@ -19,7 +19,7 @@ use Rattle.odb_transdb.proofs.Turning.{turn_run, left_since, turned_since, turne
 use Rattle.odb_transdb.proofs.Invariants.{is_db_turned, keeps_value}
 use Rattle.odb_transdb.proofs.transdb.Transdb.turn.Given.{Over}
 use Rattle.odb_transdb.proofs.transdb.Transdb.turn.Goals as goal
-use Rattle.odb_transdb.proofs.transdb.Transdb.turn.Goals.{After-put, After-replace}
+use Rattle.odb_transdb.proofs.transdb.Transdb.turn.Goals.{After-put, After-swap}
 
 module _ (g : Over) (c : After-put g) where
   abbrev db : Db
@@ -68,12 +68,12 @@ module _ (g : Over) (c : After-put g) where
   clean = search rules
 
 -- once the new side is begun
-module _ (g : Over) (c : After-replace g) where
+module _ (g : Over) (c : After-swap g) where
   abbrev log : Log
   log = c.begin_side-active.result
 
-  abbrev made : Header → Log → Log → Db
-  made h a l = record { header = h; pair = c.put.new.self; active = a; live = Some l }
+  abbrev made : Header → Log → Log → List ℕ → List ℕ → Db
+  made h a l p q = record { header = h; pair = c.put.new.self; active = a; live = Some l; places = p; live_places = q }
 
   abbrev old : Db
   old = the_view c.self.inside
@@ -84,10 +84,12 @@ module _ (g : Over) (c : After-replace g) where
   header_is : c.turned-header.result ≡ new_header
   header_is = c.turned-header.ensures ∙ ap (λ (k : ℕ). turned k old.header) c.next_number.ensures
 
-  made_is : made new_header log old.active ≡ made c.turned-header.result c.replace.new.dest c.replace.result
+  made_is : made new_header log old.active [] old.places ≡ made c.turned-header.result c.replace.new.dest c.replace.result c.swap.new.x c.swap.new.y
   made_is =
-      ap (λ (h : Header). made h log old.active) (sym header_is) ∙ ap (λ (a : Log). made c.turned-header.result a old.active) (sym c.replace.ensures.after)
-      ∙ ap (λ (l : Log). made c.turned-header.result c.replace.new.dest l) (sym c.replace.ensures.value)
+      ap (λ (h : Header). made h log old.active [] old.places) (sym header_is) ∙ ap (λ (a : Log). made c.turned-header.result a old.active [] old.places) (sym c.replace.ensures.after)
+      ∙ ap (λ (l : Log). made c.turned-header.result c.replace.new.dest l [] old.places) (sym c.replace.ensures.value)
+      ∙ ap (λ (p : List ℕ). made c.turned-header.result c.replace.new.dest c.replace.result p old.places) (sym (c.swap.ensures.x_after ∙ c.clear.ensures))
+      ∙ ap (λ (q : List ℕ). made c.turned-header.result c.replace.new.dest c.replace.result c.swap.new.x q) (sym c.swap.ensures.y_after)
 
   log_is : log ≡ begun 0 (side_start new_header new_header.active) (side_end new_header new_header.active) (active_first new_header)
   log_is = subst (λ (x : Header). log ≡ begun 0 (side_start x x.active) (side_end x x.active) (active_first x)) header_is c.begin_side-active.ensures.log
@@ -98,11 +100,11 @@ module _ (g : Over) (c : After-replace g) where
 pub returns-in-Ok-clause-run : goal.returns-in-Ok-clause-run
 returns-in-Ok-clause-run g c = λ here all given.
     let a = (goal.at.returns-in-Ok-clause-run g c).After-put in
-    let r = (goal.at.returns-in-Ok-clause-run g c).After-replace in
+    let r = (goal.at.returns-in-Ok-clause-run g c).After-swap in
     let done = c.in-Ok.ensures.counts in
     let clean_now = clean_of g a here in
     let since = since_of g a all given in
-    subst (λ (d : Db). RunsTurn all d (made g r c.turned-header.result c.replace.new.dest c.replace.result) (w g a) (now g a)) c.self.view_is
+    subst (λ (d : Db). RunsTurn all d (made g r c.turned-header.result c.replace.new.dest c.replace.result c.swap.new.x c.swap.new.y) (w g a) (now g a)) c.self.view_is
     (subst (λ (d : Db). RunsTurn all (db g a) d (w g a) (now g a)) (made_is g r)
     (record {
       run = turn_run (db g a) (is g a) clean_now (few g a) all (value g a) (value_is g a) (w g a) (now g a) c.put.ensures.run since;
@@ -114,10 +116,10 @@ returns-in-Ok-clause-run g c = λ here all given.
 pub returns-in-Ok-clause-turned : goal.returns-in-Ok-clause-turned
 returns-in-Ok-clause-turned g c =
     let a = (goal.at.returns-in-Ok-clause-turned g c).After-put in
-    let r = (goal.at.returns-in-Ok-clause-turned g c).After-replace in
+    let r = (goal.at.returns-in-Ok-clause-turned g c).After-swap in
     let done = c.in-Ok.ensures.counts in
     let since = since_of g a c.requires.stands.0 c.requires.stands.1 in
-    subst (λ (d : Db). IsTurned d (made g r c.turned-header.result c.replace.new.dest c.replace.result) (now g a)) c.self.view_is
+    subst (λ (d : Db). IsTurned d (made g r c.turned-header.result c.replace.new.dest c.replace.result c.swap.new.x c.swap.new.y) (now g a)) c.self.view_is
     (subst (λ (d : Db). IsTurned (db g a) d (now g a)) (made_is g r)
     (record {
       header = refl;
@@ -131,7 +133,7 @@ returns-in-Ok-clause-turned g c =
 pub returns-in-Ok-clause-entries : goal.returns-in-Ok-clause-entries
 returns-in-Ok-clause-entries g c =
     let a = (goal.at.returns-in-Ok-clause-entries g c).After-put in
-    let r = (goal.at.returns-in-Ok-clause-entries g c).After-replace in
+    let r = (goal.at.returns-in-Ok-clause-entries g c).After-swap in
     let done = c.in-Ok.ensures.counts in
     let since = since_of g a c.requires.stands.0 c.requires.stands.1 in
     turned_entries (db g a) (is g a) (clean g a) (few g a) c.requires.stands.0 (value g a) (value_is g a) (w g a) (now g a) c.put.ensures.run since (reads g a) (pair g a) (its g a) (log g r) (log_is g r) (begins g r)
@@ -141,13 +143,13 @@ returns-in-Ok-clause-entries g c =
 pub returns-in-Ok-clause-placed : goal.returns-in-Ok-clause-placed
 returns-in-Ok-clause-placed g c =
     let a = (goal.at.returns-in-Ok-clause-placed g c).After-put in
-    let r = (goal.at.returns-in-Ok-clause-placed g c).After-replace in
+    let r = (goal.at.returns-in-Ok-clause-placed g c).After-swap in
     let done = c.in-Ok.ensures.counts in
     let kept = keeps_value (t g a) (value g a) (pair g a) (value_is g a) (ap (λ (x : PairState). x.value) done) (ap (λ (x : PairState). x.tried) done) in
     let usable : (db g a).active.in_doubt ≡ false = ap (λ (d : Db). d.active.in_doubt) c.self.view_is ∙ c.requires.usable in (
       subst IsPlaced c.self.view_is (is_placed (db g a) (is g a)),
       subst IsPlaced (made_is g r)
-          (is_placed (made g r (t g a) (log g r) (db g a).active) (is_db_turned (db g a) (is g a) (pair g a) c.put.ensures.same (clean g a) (few g a) (log g r) usable kept (log_is g r))),
+          (is_placed (made g r (t g a) (log g r) (db g a).active [] (db g a).places) (is_db_turned (db g a) (is g a) (pair g a) c.put.ensures.same (clean g a) (few g a) (log g r) usable kept (log_is g r))),
     )
 
 pub returns-in-Err-clause-run : goal.returns-in-Err-clause-run
@@ -155,7 +157,7 @@ returns-in-Err-clause-run g c = λ here all given.
     let a = (goal.at.returns-in-Err-clause-run g c).After-put in
     let clean_now = clean_of g a here in
     let since = since_of g a all given in
-    subst (λ (d : Db). RunsTurn all d (record { header = c.self.inside.header; pair = c.put.new.self; active = c.self.inside.active; live = c.self.inside.live }) (w g a) (now g a)) c.self.view_is
+    subst (λ (d : Db). RunsTurn all d (record { header = c.self.inside.header; pair = c.put.new.self; active = c.self.inside.active; live = c.self.inside.live; places = c.self.inside.places; live_places = c.self.inside.live_places }) (w g a) (now g a)) c.self.view_is
     (record {
       run = turn_run (db g a) (is g a) clean_now (few g a) all (value g a) (value_is g a) (w g a) (now g a) c.put.ensures.run since;
       stands = left_since (db g a) (is g a) clean_now (few g a) all (value g a) (value_is g a) (w g a) (now g a) c.put.ensures.run since (reads g a) (pair g a) (its g a) c.in-Err.ensures.unsettled;

@@ -4,12 +4,12 @@ use Rattle.odb_device.specs.Images.{ReadsImage}
 use Rattle.odb_device.specs.Moments.{Runs}
 use Rattle.odb_reclog.specs.Told.{IfTold}
 use Rattle.odb_reclog.specs.Records.{payload_at}
-use Rattle.odb_reclog.specs.Standing.{Log, HasItsBody}
+use Rattle.odb_reclog.specs.Standing.{Log, Stands as LogStands, HasItsBody}
 use Rattle.odb_transdb.specs.Opened.{entries_in}
 use Rattle.odb_transdb.specs.Standing.{Db, Stands, IsSettledIn}
 use Rattle.odb_transdb.specs.Answers.{HoldsAll}
 use Rattle.odb_transdb.specs.contracts.transdb.Transdb.{the_view}
-use Rattle.odb_transdb.proofs.Standing.{with_active, is_placed}
+use Rattle.odb_transdb.proofs.Standing.{with_active, is_placed, stands_log}
 use Rattle.odb_reclog.specs.Regions.{WritesBehind, IsWritten}
 use Rattle.odb_transdb.specs.Worlds.{WritesBehindGate, RewritesTail, IsRecorded}
 use Rattle.odb_transdb.proofs.Forcing.{HasRoom, IsReady, behind_db, step_gate, step_run, step_settled, steps_gate, steps_tail, steps_run, steps_settled, ok_then}
@@ -54,6 +54,13 @@ module _ (g : Over) (c : After-clear_tail g) where
 
   written_settled : (new : Log) (now : World) → WritesBehind cleared new mid now → ReadsImage (file_of 0 now) → IsSettledIn (file_of 0 w) (file_of 0 now) db (with_active db new)
   written_settled new now two after = steps_settled db cleared new w mid now ready left (g.met.S.Store.reads_image c.clear_tail.new.store 0) two after
+
+pub clear_tail-requires-clause-stands : goal.clear_tail-requires-clause-stands
+clear_tail-requires-clause-stands g c =
+    let w = g.S.Outside.world c.args.store.now in
+    let db = the_view c.self.inside in
+    let stands : Stands db (file_of 0 w) = subst (λ (d : Db). Stands d (file_of 0 w)) (sym c.self.view_is) c.requires.stands in
+    subst (λ (k : ℕ). LogStands db.active (file_of k w)) (sym c.self.invariant.active.file) (stands_log db (file_of 0 w) stands)
 
 pub returns-in_err-clear_tail-clause-run : goal.returns-in_err-clear_tail-clause-run
 returns-in_err-clear_tail-clause-run g c =

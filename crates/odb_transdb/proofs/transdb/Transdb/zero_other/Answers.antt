@@ -1,4 +1,4 @@
-use Rattle.std.proofs.Common.{◌≡◌, ℕ, ◌+◌, ◌-◌, sym, ◌∙◌, ap, subst}
+use Rattle.std.proofs.Common.{◌≡◌, ℕ, ◌+◌, ◌-◌, refl, sym, ◌∙◌, ap, subst, arith}
 use Rattle.odb_device.specs.World.{World, file_of}
 use Rattle.odb_device.specs.Images.{ReadsImage}
 use Rattle.odb_reclog.specs.Told.{TearsOnly}
@@ -6,6 +6,8 @@ use Rattle.odb_model.specs.declared.side.OtherSide.TheVariants.{Dirty}
 use Rattle.odb_transdb.specs.Header.{side_start, side_end, side_size, other_of}
 use Rattle.odb_transdb.specs.Standing.{Db, IsDb, Stands}
 use Rattle.odb_transdb.specs.Worlds.{KeepsEntries, SameEntries}
+use Rattle.odb_transdb.specs.Turning.{WritesOther}
+use Rattle.odb_transdb.proofs.Frame.{other_side}
 use Rattle.odb_transdb.specs.contracts.transdb.Transdb.{the_view}
 use Rattle.odb_transdb.proofs.Cleaning.{zeros_run, zeros_stand, zeros_entries}
 use Rattle.odb_transdb.proofs.transdb.Transdb.zero_other.Given.{Over}
@@ -50,6 +52,17 @@ module _ (g : Over) (c : After-zero_range g) where
 
   same : SameEntries w now
   same = zeros_entries db is dirty w now stands run reads
+
+  only : WritesOther c.args.self.now.header w now
+  only =
+      subst (λ (d : Db). WritesOther d.header w now) c.self.view_is
+      (other_side db.header (side_start db.header (other_of db.header)) (side_end db.header (other_of db.header) - side_start db.header (other_of db.header)) w now refl (omega arith) run)
+
+pub returns-in_err-zero_range-clause-only : goal.returns-in_err-zero_range-clause-only
+returns-in_err-zero_range-clause-only g c = only g (goal.at.returns-in_err-zero_range-clause-only g c).After-zero_range
+
+pub returns-clause-only : goal.returns-clause-only
+returns-clause-only g c = only g (goal.at.returns-clause-only g c).After-zero_range
 
 pub returns-in_err-zero_range-clause-run : goal.returns-in_err-zero_range-clause-run
 returns-in_err-zero_range-clause-run g c = keeps g (goal.at.returns-in_err-zero_range-clause-run g c).After-zero_range

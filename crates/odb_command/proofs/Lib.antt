@@ -1,0 +1,5 @@
+pub mod Numbers
+pub mod Choices
+pub mod Matches
+pub mod Simple
+mod Worked

@@ -1,0 +1,12 @@
+pub mod Files
+pub mod Images
+pub mod Opened
+pub mod Admissible
+pub mod Kept
+pub mod Trusted
+pub mod Entry
+pub mod Leaves
+pub mod Opening
+pub mod Sees
+pub mod Again
+pub mod Survives
