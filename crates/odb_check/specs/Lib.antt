@@ -1,0 +1,4 @@
+pub mod Tables
+pub mod Told
+pub mod Left
+pub mod Found
