@@ -549,5 +549,6 @@ module _ (b : BankState) (file : ℕ) (sound : IsSound file b) (phase : b.phase 
     inside = stays_inside;
     apart = AllPairs-filter (λ (a c : Kept). a.slot ≢ c.slot) (λ x. not (is_closing b.mark b.slots x)) b.slots sound.apart;
     run_inside = sound.run_inside;
+    run_ascending = sound.run_ascending;
     run_kept = subst (λ (p : Phase). KeepsRun (with_kept (staying_of b)) p) (sym phase) stays_open;
   })

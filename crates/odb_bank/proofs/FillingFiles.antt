@@ -178,8 +178,8 @@ module _ (b : BankState) (file : ℕ) (sound : IsSound file b) (phase : b.phase 
       (λ k d within. inr ((λ one. unused k (get_or b.slots k d) (slice_get-get_or b.slots k d within) one.0 (slot_at (get_or b.slots k d).slot one)), gates k d within))
       (λ k d within. let there = added_in k d within in inl (added_one k d within, ap (λ (x : Kept). x.gate) there.2))
 
-  pub filled_sound : (slots : List Kept) (reached : ℕ) → IsPermutation (b.slots ++ added) slots → b.mark ≤ reached → IsSound file (with_run b slots run reached)
-  filled_sound slots reached same high = sound_permuted (with_run b (b.slots ++ added) run reached) file slots same (record {
+  pub filled_sound : (slots : List Kept) (reached : ℕ) → IsPermutation (b.slots ++ added) slots → b.mark ≤ reached → AllPairs (λ a c. a < c) run → IsSound file (with_run b slots run reached)
+  filled_sound slots reached same high ascending = sound_permuted (with_run b (b.slots ++ added) run reached) file slots same (record {
     number = sound.number;
     most = sound.most;
     high = sound.high;
@@ -190,6 +190,7 @@ module _ (b : BankState) (file : ℕ) (sound : IsSound file b) (phase : b.phase 
     inside = each_inside;
     apart = each_apart;
     run_inside = λ k d within. slot_low k (get_or run k d) (slice_get-get_or run k d within);
+    run_ascending = ascending;
     run_kept = (run_used, shut_run);
   })
 

@@ -6,9 +6,7 @@ use Rattle.std.proofs.lemmas.Bool.{cases_lt, lt-ltb, le-ltb}
 use Rattle.std.proofs.lemmas.List.{length_push, get_or_append_left, get_or_push, get_or-append-add, length-append}
 use Rattle.std.proofs.lemmas.List.Quantifiers.{all_pairs_push}
 use Rattle.odb_slots.specs.Sets.{IsOneOf}
-use Rattle.odb_bank.specs.Gates.{is_in}
 use Rattle.odb_bank.specs.Room.{AreFree}
-use Rattle.odb_bank.proofs.GateTurn.{in_one, out_one}
 
 -- the slots below this one
 pub record IsFinding (used : List ℕ) (slot : ℕ) (free : List ℕ) : Type 0 where
@@ -44,24 +42,24 @@ last_slot : (slot m : ℕ) → m < slot + 1 → (m ≡ slot) ⊎ (m < slot)
 last_slot slot m low = elim (cases_lt m slot) [ inl before ↦ inr before | inr from ↦ inl (omega arith) ]
 
 module _ (used : List ℕ) (slot : ℕ) (free : List ℕ) (so_far : IsFinding used slot free) where
-  pub finding_used : is_in used slot ≡ true → IsFinding used (slot + 1) free
+  pub finding_used : IsOneOf used slot → IsFinding used (slot + 1) free
   finding_used is = record {
     low = λ k d low. omega (arith, so_far.low k d low);
     ascending = so_far.ascending;
     unused = so_far.unused;
     covered = λ m low. elim (last_slot slot m low) [
-      | inl last ↦ inl (subst (IsOneOf used) (sym last) (in_one used slot is))
+      | inl last ↦ inl (subst (IsOneOf used) (sym last) is)
       | inr before ↦ so_far.covered m before
     ];
   }
 
-  pub finding_free : is_in used slot ≡ false → IsFinding used (slot + 1) (free ++ slot ∷ [])
+  pub finding_free : (IsOneOf used slot → ⊥) → IsFinding used (slot + 1) (free ++ slot ∷ [])
   finding_free is = record {
     low = λ k d low. low_at k d low (cases_lt k (length free));
     ascending = all_pairs_push (λ a c. a < c) free slot so_far.ascending so_far.low;
     unused = λ n one two. elim (one_cases free slot n one) [
       | inl before ↦ so_far.unused n before two
-      | inr last ↦ out_one used slot is (subst (IsOneOf used) (sym last) two)
+      | inr last ↦ is (subst (IsOneOf used) (sym last) two)
     ];
     covered = λ m low. elim (last_slot slot m low) [
       | inl last ↦ inr (subst (IsOneOf (free ++ slot ∷ [])) (sym last) (one_last free slot))

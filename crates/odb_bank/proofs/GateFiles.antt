@@ -274,6 +274,7 @@ module _ (file : ℕ) (b : BankState) (sound : IsSound file b) (run : List ℕ) 
       inside = inside_noted;
       apart = apart_noted;
       run_inside = sound.run_inside;
+      run_ascending = sound.run_ascending;
       run_kept = keeps;
     }
       where

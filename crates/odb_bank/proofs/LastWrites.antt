@@ -37,7 +37,7 @@ by_all P [] all j c is = absurd (cc is)
 by_all P (w ∷ ws) all zero c is = let same : w ≡ c = cc is in subst (λ (x : Write). P (table_key_of x)) same all.0
 by_all P (w ∷ ws) all (suc j) c is = by_all P ws all.1 j c is
 
-sorted_pairs : (ws : List Write) → IsStrictlySortedBy table_key_cmp (table_keys ws) → (i j : ℕ) (a c : Write) → i < j → slice_get ws i ≡ Some a → slice_get ws j ≡ Some c → table_key_cmp (table_key_of a) (table_key_of c) ≡ Less
+pub sorted_pairs : (ws : List Write) → IsStrictlySortedBy table_key_cmp (table_keys ws) → (i j : ℕ) (a c : Write) → i < j → slice_get ws i ≡ Some a → slice_get ws j ≡ Some c → table_key_cmp (table_key_of a) (table_key_of c) ≡ Less
 sorted_pairs [] up i j a c low one other = absurd (cc one)
 sorted_pairs (w ∷ ws) up zero zero a c low one other = absurd (omega arith)
 sorted_pairs (w ∷ ws) up zero (suc j) a c low one other =

@@ -21,11 +21,14 @@ pub mod Holding
 pub mod Choice
 pub mod Got
 pub mod GateTurn
+pub mod InRun
 pub mod GateFiles
 pub mod MarkTurn
 pub mod Lasting
 pub mod AnyOf
 pub mod LastWrites
+pub mod Passing
+pub mod UsedSlots
 pub mod FreeSlots
 pub mod ClosingSlots
 pub mod ClosingTurn

@@ -208,5 +208,6 @@ opened_sound file bank mark number e slots its most high fields settled inside =
   inside = inside.inside;
   apart = λ i j d low within e. omega (arith, inside.ascending i j d low within);
   run_inside = λ k d low. absurd (omega arith);
+  run_ascending = λ i j d low within. absurd (omega arith);
   run_kept = λ k d low shut. let is_open = inside.opened k d low in cc (is_open, shut);
 }

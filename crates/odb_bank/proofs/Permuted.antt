@@ -84,6 +84,7 @@ module _ (b : BankState) (file : ℕ) (slots : List Kept) (same : IsPermutation 
     inside = All-permutation (λ it. it.slot < 1024 * limit_of b.extents) b.slots slots same sound.inside;
     apart = apart_permuted b.slots slots same sound.apart;
     run_inside = sound.run_inside;
+    run_ascending = sound.run_ascending;
     run_kept = keeps_permuted b.phase sound.run_kept;
   }
 

@@ -60,6 +60,7 @@ module _ (b : BankState) (file : ℕ) (sound : IsSound file b) (phase : b.phase 
     inside = λ k d low. omega (arith, sound.inside k d low, growing.limits);
     apart = sound.apart;
     run_inside = λ k d low. omega (arith, sound.run_inside k d low, growing.limits);
+    run_ascending = sound.run_ascending;
     run_kept = subst (KeepsRun (with_extents b e)) (sym phase) (subst (KeepsRun b) phase sound.run_kept);
   }
 

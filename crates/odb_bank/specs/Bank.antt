@@ -121,8 +121,8 @@ KeepsRun b Bodies = ((n : ℕ) → IsOneOf b.run n → IsUsed b.slots n)
     × All (λ it. it.gate ≡ Shut → IsOneOf b.run it.slot) b.slots
 KeepsRun b Gates = All (λ it. it.gate ≢ Shut) b.slots
 
--- The pair of the file keeps the number of the databank and the mark, and what memory keeps are
--- slots inside the limit, each once.
+-- The pair of the file keeps the number of the databank and the mark, what memory keeps are slots
+-- inside the limit, each once, and those of the run ascend.
 pub record IsSound (file : ℕ) (b : BankState) : Type 0 where
   pub number : file_number b ≡ file
   pub most : b.extents.most ≡ 4096
@@ -134,4 +134,5 @@ pub record IsSound (file : ℕ) (b : BankState) : Type 0 where
   pub inside : All (λ it. it.slot < slot_limit b) b.slots
   pub apart : AllPairs (λ a c. a.slot ≢ c.slot) b.slots
   pub run_inside : All (λ n. n < slot_limit b) b.run
+  pub run_ascending : AllPairs (λ a c. a < c) b.run
   pub run_kept : KeepsRun b b.phase

@@ -1,6 +1,6 @@
 -- The write of the least key behind another one, in entries.
-use Rattle.std.specs.Prelude.{◌≡◌, ℕ, ◌<◌, false, List, slice_get, Option, Some, None}
-use Rattle.std.specs.Ordering.{is_gt}
+use Rattle.std.specs.Prelude.{◌≡◌, ℕ, ◌<◌, Bool, false, not, List, slice_get, Option, Some, None}
+use Rattle.std.specs.Ordering.{is_gt, is_lt}
 use Rattle.std.specs.declared.cmp.Ordering.TheVariants.{Less}
 use Rattle.odb_model.specs.declared.entry.Entry.{Entry}
 use Rattle.odb_model.specs.declared.write.Write.{Write}
@@ -14,6 +14,15 @@ IsBehind (Some before) key = table_key_cmp before key ≡ Less
 -- a write in the databank, of a key behind the one before
 abbrev pub IsAbove : ℕ → Option Key → Write → Type 0
 IsAbove bank above w = (w.bank ≡ bank) × IsBehind above (table_key_of w)
+
+-- whether a write has a key that isn't behind this one
+abbrev pub is_passed : Key → Write → Bool
+is_passed before w = not (is_lt (table_key_cmp before (table_key_of w)))
+
+-- none of the first so many writes has a key behind the one before
+abbrev pub ArePassed : Option Key → List Write → ℕ → Type 0
+ArePassed above writes n = (k : ℕ) (w : Write) → k < n → slice_get writes k ≡ Some w
+    → IsBehind above (table_key_of w) → ⊥
 
 -- the first of the writes that is so; or none is
 abbrev pub IsFirstAbove : ℕ → Option Key → List Write → ℕ → Option ℕ → Type 0

@@ -12,9 +12,10 @@ use std::marker::Model;
 /// A turn is `bodies`, `gates`, `raise_mark`. At each moment of it a crash leaves a file that stands
 /// for the history, complete to the mark that the file holds.
 ///
-/// Memory has of each slot that isn't free the key, the stamp and whether there is a row, and not
-/// the row: 80 bytes a record, and the key's values. Of a free slot it has nothing. Contracts see
-/// the value as a `BankState`, and say by `Stands` what each image of the file is.
+/// Memory has of each slot that isn't free the key, once, the stamp and whether there is a row, and
+/// not the row: a node of 80 bytes a record, for which the allocator takes some more, and the key's
+/// values. Of a free slot it has nothing. Contracts see the value as a `BankState`, and say by
+/// `Stands` what each image of the file is.
 #[derive(Debug, Drop)]
 pub struct Bank {
     /// The number of its file.

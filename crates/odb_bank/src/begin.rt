@@ -176,8 +176,8 @@ impl Bank {
     ///
     /// A sync for the gates that it closes and one for the bodies; and an extent that it adds costs
     /// what `Extents::grow` says. All memory is taken before the first call of the store, also what
-    /// `gates` and `raise_mark` will need. One pass over the entries for each key that they write,
-    /// and one over what memory keeps for each record that it has.
+    /// `gates` and `raise_mark` will need. A search in each entry for each key that they write; and
+    /// one pass over what memory keeps, with a search or two for each record.
     ///
     /// - `Phase`: a turn is begun.
     /// - `NotNext`: the first entry isn't the one behind the mark.

@@ -1,12 +1,14 @@
 //! The last writes of the entries that a turn takes up.
-ghost use Rattle.std.specs.Prelude.{◌≡◌, ◌↔◌, ◌+◌, ◌<◌, length, map, IfOk, IsTrue};
+ghost use Rattle.std.specs.Prelude.{◌≡◌, ◌↔◌, ◌+◌, ◌<◌, ◌≤◌, true, false, length, map, IfOk, IsTrue};
 ghost use Rattle.std.specs.List.{All};
+ghost use Rattle.std.specs.List.Sorted.{IsStrictlySortedBy, IsPartitionPoint};
 ghost use Rattle.std.specs.Option.{option_copied};
 ghost use Rattle.odb_codec.specs.Image.{IsStorable};
 ghost use Rattle.odb_model.specs.State.{table_key_cmp, table_key_of};
+ghost use Rattle.odb_model.specs.Transaction.{table_keys};
 ghost use Rattle.odb_bank.specs.Additions.{record_of, IsAddition, last_key, IsNarrow};
 ghost use Rattle.odb_bank.specs.Latest.{AreLatest};
-ghost use Rattle.odb_bank.specs.LeastAbove.{IsAbove, IsFirstAbove, IsLeast};
+ghost use Rattle.odb_bank.specs.LeastAbove.{is_passed, ArePassed, IsAbove, IsFirstAbove, IsLeast};
 
 use odb_model::{Entry, TableKey, Write};
 use odb_values::{Duplicate, Key, Row, cmp_key};
@@ -25,8 +27,8 @@ pub(crate) struct Addition {
 
 /// Of each key of the databank that the entries write the last write, in the order of the keys.
 ///
-/// One pass over the entries for each key. Memory is taken for the keys and rows; the error is want
-/// of it.
+/// A search in each entry for each key. Memory is taken for the keys and rows; the error is want of
+/// it.
 pub(crate) fn latest(
     alloc: Global,
     entries: &[Entry],
@@ -116,17 +118,47 @@ fn lesser(
 }
 
 /// The first of some writes that is in the databank and has a key behind another one, where that is
-/// given.
+/// given: a binary search, and a pass over the writes of other databanks that follow.
 fn first_above(writes: &[Write], bank: u32, above: Option<&TableKey>) -> Option<usize>
+    requires { IsStrictlySortedBy table_key_cmp (table_keys writes.now) }
     ensures { IsFirstAbove bank (option_copied above.entry) writes.now
         (length writes.now) result }
 {
-    for (i, write) in writes.iter().enumerate() {
-        if is_above(write, bank, above) {
+    for i in place_above(writes, above)..writes.len() {
+        if is_above(&writes[i], bank, above) {
             return Some(i);
         }
     }
     None
+}
+
+/// The place of the first write that has a key behind another one, where that is given.
+fn place_above(writes: &[Write], above: Option<&TableKey>) -> usize
+    requires { IsStrictlySortedBy table_key_cmp (table_keys writes.now) }
+    ensures within { result ≤ length writes.now }
+    ensures passed { ArePassed (option_copied above.entry) writes.now result }
+{
+    match above {
+        None => 0,
+        Some(before) => place_behind(writes, before),
+    }
+}
+
+/// The place of the first write that has a key behind this one, by a binary search.
+fn place_behind(writes: &[Write], before: &TableKey) -> usize
+    requires { IsStrictlySortedBy table_key_cmp (table_keys writes.now) }
+    ensures within { result ≤ length writes.now }
+    ensures splits { IsPartitionPoint (λ w. is_passed before.now w ≡ true)
+        (λ w. is_passed before.now w ≡ false) writes.now result }
+{
+    writes.partition_point(|write| is_passed(write, before))
+}
+
+/// Whether a write has a key that isn't behind this one.
+fn is_passed(write: &Write, before: &TableKey) -> bool
+    ensures { result ≡ is_passed before.now write.now }
+{
+    cmp_keys(before.table, &before.key, write.table, &write.key) != Ordering::Less
 }
 
 /// Whether a write is in the databank and has a key behind another one, where that is given.

@@ -1,9 +1,9 @@
 //! What memory keeps of a file's slots, in the order of keys.
-ghost use Rattle.std.specs.Prelude.{◌≡◌, ◌++◌, ◌∷◌, [], ◌&&◌, map, find, not, IfOk, OnOk};
-ghost use Rattle.std.specs.List.{filter, list_any};
+ghost use Rattle.std.specs.Prelude.{◌≡◌, ◌<◌, ◌++◌, ◌∷◌, [], ◌&&◌, map, find, not, IfOk, OnOk};
+ghost use Rattle.std.specs.List.{AllPairs, filter, list_any};
 ghost use Rattle.std.specs.Option.{option_copied};
 ghost use Rattle.odb_bank.specs.Closing.{supersedes, is_older, is_open, is_doubtful, is_closing};
-ghost use Rattle.odb_bank.specs.Gates.{with_gate};
+ghost use Rattle.odb_bank.specs.Gates.{is_in, with_gate};
 ghost use Rattle.odb_bank.specs.Order.{IsInOrder, CanJoin, IsCut, IsPut};
 ghost use Rattle.std.specs.Ordering.{is_lt};
 ghost use Rattle.odb_model.specs.State.{table_key_cmp};
@@ -213,15 +213,30 @@ impl Tree {
     }
 
     /// Notes this of the gates of these slots.
-    pub(crate) fn note(&mut self, run: &[u32], gate: Gate)
+    pub(crate) fn note(&mut self, slots: &[u32], gate: Gate)
+        ensures { self.new ≡ map (with_gate slots.now gate) self.old }
+    {
+        match &mut self.root {
+            Node::Leaf => {}
+            Node::Fork(fork) => {
+                fork.0.note(slots, gate);
+                note_gate(&mut fork.1, slots, gate);
+                fork.2.note(slots, gate);
+            }
+        }
+    }
+
+    /// The same of slots that ascend: one pass, with a search among them for each record.
+    pub(crate) fn note_run(&mut self, run: &[u32], gate: Gate)
+        requires { AllPairs (λ a c. a < c) run.now }
         ensures { self.new ≡ map (with_gate run.now gate) self.old }
     {
         match &mut self.root {
             Node::Leaf => {}
             Node::Fork(fork) => {
-                fork.0.note(run, gate);
-                note_gate(&mut fork.1, run, gate);
-                fork.2.note(run, gate);
+                fork.0.note_run(run, gate);
+                note_one(&mut fork.1, run, gate);
+                fork.2.note_run(run, gate);
             }
         }
     }
@@ -448,10 +463,28 @@ fn rank(slot: u32) -> u32 {
 }
 
 /// Notes this of the gate of a slot that is one of these.
-fn note_gate(it: &mut Kept, run: &[u32], gate: Gate)
-    ensures { it.new ≡ with_gate run.now gate it.old }
+fn note_gate(it: &mut Kept, slots: &[u32], gate: Gate)
+    ensures { it.new ≡ with_gate slots.now gate it.old }
 {
-    if run.contains(&it.slot) {
+    if slots.contains(&it.slot) {
         it.gate = gate;
     }
+}
+
+/// The same where these ascend.
+fn note_one(it: &mut Kept, run: &[u32], gate: Gate)
+    requires { AllPairs (λ a c. a < c) run.now }
+    ensures { it.new ≡ with_gate run.now gate it.old }
+{
+    if is_in(run, it.slot) {
+        it.gate = gate;
+    }
+}
+
+/// Whether a slot is one of these, by a binary search.
+fn is_in(run: &[u32], slot: u32) -> bool
+    requires { AllPairs (λ a c. a < c) run.now }
+    ensures { result ≡ is_in run.now slot }
+{
+    run.binary_search(&slot).is_ok()
 }

@@ -48,10 +48,10 @@ impl Bank {
         }
         // Asked for what its contract says: which limits and fields each image holds.
         let _limit = self.extents.limit();
-        self.slots.note(&self.run, Gate::Doubtful);
+        self.slots.note_run(&self.run, Gate::Doubtful);
         match open_gates(store, self.file, self.run.as_slice()) {
             Ok(()) => {
-                self.slots.note(&self.run, Gate::Open);
+                self.slots.note_run(&self.run, Gate::Open);
                 self.phase = Phase::Gates;
                 Ok(())
             }

@@ -182,3 +182,11 @@ returns-in-Less c =
     let order : c.cmp_writes.result ≡ table_key_cmp (table_key_of w) (table_key_of w0) =
     c.cmp_writes.ensures in
     least_takes c.args.bank above entries c.args.i e here up c.in-Some.place w at first (c.in-Some-least.entry, c.in-Some-least.write) f w0 there is_write best (ap is_gt (sym order ∙ c.in-Less.is))
+
+pub first_above-requires : goal.first_above-requires
+first_above-requires c =
+    let entries = c.args.entries.now in
+    let e = c.index-entries-i.result in
+    let here : slice_get entries c.args.i ≡ Some e = slice_get_read entries (length entries) c.args.i e refl c.requires.inside c.index-entries-i.is in
+    let up : IsStrictlySortedBy table_key_cmp (table_keys e.writes) = ordered_at entries c.requires.storable c.args.i e here in
+    subst (λ (ws : List Write). IsStrictlySortedBy table_key_cmp (table_keys ws)) (sym (c.as_slice.ensures ∙ ap (λ (x : Entry). x.writes) (sym c.index-entries-i.is))) up

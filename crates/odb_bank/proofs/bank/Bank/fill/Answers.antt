@@ -146,7 +146,7 @@ invariant_of-self g c =
     let low = low_by p.run.items (slot_limit v) plan.inside in
     let slots : List Kept = c.put_all.new.slots in
     let same : IsPermutation (v.slots ++ p.kept.items) slots = c.put_all.ensures in
-    filled_sound v c.self.inside.file c.self.invariant idle gates p.run.items records p.items.items p.kept.items assigned distinct low unused slots p.reached same plan.reached
+    filled_sound v c.self.inside.file c.self.invariant idle gates p.run.items records p.items.items p.kept.items assigned distinct low unused slots p.reached same plan.reached plan.free.ascending
 
 pub returns-in-Ok-clause-run : goal.returns-in-Ok-clause-run
 returns-in-Ok-clause-run g c =

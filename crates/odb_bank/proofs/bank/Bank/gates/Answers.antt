@@ -1,5 +1,6 @@
-use Rattle.std.proofs.Common.{◌≡◌, ℕ, ◌^◌, List, length, sym, ◌∙◌, ap, subst, arith, rules}
+use Rattle.std.proofs.Common.{◌≡◌, ℕ, ◌^◌, ◌<◌, List, length, sym, ◌∙◌, ap, subst, arith, rules}
 use Rattle.std.specs.Prelude.{map}
+use Rattle.std.specs.List.{AllPairs}
 use Rattle.std.specs.Vec.{with_items}
 use Rattle.std.proofs.lemmas.List.{with_items_is, length-map}
 use Rattle.odb_device.specs.World.{file_of}
@@ -31,13 +32,13 @@ invariant_of-self g c =
       run = c.self.inside.run.items;
       slots = c.self.inside.slots;
     } in
-    let one : List Kept = c.note.new.self in
+    let one : List Kept = c.note_run.new.self in
     let first : one ≡ map (with_gate v.run Doubtful) v.slots =
-    c.note.ensures ∙ ap (λ (r : List ℕ). map (with_gate r Doubtful) v.slots) c.deref.ensures.value in
+    c.note_run.ensures ∙ ap (λ (r : List ℕ). map (with_gate r Doubtful) v.slots) c.deref.ensures.value in
     let phase : ◌≡◌ {A = Phase} c.self.inside.phase Bodies = search rules in
-    let both : List Kept = c.note-in-Ok.new.self in
+    let both : List Kept = c.note_run-in-Ok.new.self in
     let second : both ≡ map (with_gate v.run Open) (map (with_gate v.run Doubtful) v.slots) =
-    c.note-in-Ok.ensures ∙ ap (λ (r : List ℕ). map (with_gate r Open) one) c.deref-in-Ok.ensures.value ∙ ap (map (with_gate v.run Open)) first in
+    c.note_run-in-Ok.ensures ∙ ap (λ (r : List ℕ). map (with_gate r Open) one) c.deref-in-Ok.ensures.value ∙ ap (map (with_gate v.run Open)) first in
     let slots : List Kept = both in
     sound_open c.self.inside.file v c.self.invariant phase slots second
 
@@ -72,9 +73,9 @@ returns-in-Err-clause-stands g c =
       run = c.self.inside.run.items;
       slots = c.self.inside.slots;
     } in
-    let one : List Kept = c.note.new.self in
+    let one : List Kept = c.note_run.new.self in
     let first : one ≡ map (with_gate v.run Doubtful) v.slots =
-    c.note.ensures ∙ ap (λ (r : List ℕ). map (with_gate r Doubtful) v.slots) c.deref.ensures.value in
+    c.note_run.ensures ∙ ap (λ (r : List ℕ). map (with_gate r Doubtful) v.slots) c.deref.ensures.value in
     let phase : ◌≡◌ {A = Phase} c.self.inside.phase Bodies = search rules in
     let w = g.S.Outside.world c.args.store.now in
     let now = g.S.Outside.world c.open_gates.new.store in
@@ -97,9 +98,9 @@ returns-in-Err-clause-history g c =
       run = c.self.inside.run.items;
       slots = c.self.inside.slots;
     } in
-    let one : List Kept = c.note.new.self in
+    let one : List Kept = c.note_run.new.self in
     let first : one ≡ map (with_gate v.run Doubtful) v.slots =
-    c.note.ensures ∙ ap (λ (r : List ℕ). map (with_gate r Doubtful) v.slots) c.deref.ensures.value in
+    c.note_run.ensures ∙ ap (λ (r : List ℕ). map (with_gate r Doubtful) v.slots) c.deref.ensures.value in
     let phase : ◌≡◌ {A = Phase} c.self.inside.phase Bodies = search rules in
     let w = g.S.Outside.world c.args.store.now in
     let now = g.S.Outside.world c.open_gates.new.store in
@@ -142,13 +143,13 @@ returns-in-Ok-clause-stands g c =
       run = c.self.inside.run.items;
       slots = c.self.inside.slots;
     } in
-    let one : List Kept = c.note.new.self in
+    let one : List Kept = c.note_run.new.self in
     let first : one ≡ map (with_gate v.run Doubtful) v.slots =
-    c.note.ensures ∙ ap (λ (r : List ℕ). map (with_gate r Doubtful) v.slots) c.deref.ensures.value in
+    c.note_run.ensures ∙ ap (λ (r : List ℕ). map (with_gate r Doubtful) v.slots) c.deref.ensures.value in
     let phase : ◌≡◌ {A = Phase} c.self.inside.phase Bodies = search rules in
-    let both : List Kept = c.note-in-Ok.new.self in
+    let both : List Kept = c.note_run-in-Ok.new.self in
     let second : both ≡ map (with_gate v.run Open) (map (with_gate v.run Doubtful) v.slots) =
-    c.note-in-Ok.ensures ∙ ap (λ (r : List ℕ). map (with_gate r Open) one) c.deref-in-Ok.ensures.value ∙ ap (map (with_gate v.run Open)) first in
+    c.note_run-in-Ok.ensures ∙ ap (λ (r : List ℕ). map (with_gate r Open) one) c.deref-in-Ok.ensures.value ∙ ap (map (with_gate v.run Open)) first in
     let slots : List Kept = both in
     let w = g.S.Outside.world c.args.store.now in
     let now = g.S.Outside.world c.open_gates.new.store in
@@ -172,13 +173,13 @@ returns-in-Ok-clause-history g c =
       run = c.self.inside.run.items;
       slots = c.self.inside.slots;
     } in
-    let one : List Kept = c.note.new.self in
+    let one : List Kept = c.note_run.new.self in
     let first : one ≡ map (with_gate v.run Doubtful) v.slots =
-    c.note.ensures ∙ ap (λ (r : List ℕ). map (with_gate r Doubtful) v.slots) c.deref.ensures.value in
+    c.note_run.ensures ∙ ap (λ (r : List ℕ). map (with_gate r Doubtful) v.slots) c.deref.ensures.value in
     let phase : ◌≡◌ {A = Phase} c.self.inside.phase Bodies = search rules in
-    let both : List Kept = c.note-in-Ok.new.self in
+    let both : List Kept = c.note_run-in-Ok.new.self in
     let second : both ≡ map (with_gate v.run Open) (map (with_gate v.run Doubtful) v.slots) =
-    c.note-in-Ok.ensures ∙ ap (λ (r : List ℕ). map (with_gate r Open) one) c.deref-in-Ok.ensures.value ∙ ap (map (with_gate v.run Open)) first in
+    c.note_run-in-Ok.ensures ∙ ap (λ (r : List ℕ). map (with_gate r Open) one) c.deref-in-Ok.ensures.value ∙ ap (map (with_gate v.run Open)) first in
     let slots : List Kept = both in
     let w = g.S.Outside.world c.args.store.now in
     let now = g.S.Outside.world c.open_gates.new.store in
@@ -201,12 +202,12 @@ returns-in-Ok-clause-opened g c =
       run = c.self.inside.run.items;
       slots = c.self.inside.slots;
     } in
-    let one : List Kept = c.note.new.self in
+    let one : List Kept = c.note_run.new.self in
     let first : one ≡ map (with_gate v.run Doubtful) v.slots =
-    c.note.ensures ∙ ap (λ (r : List ℕ). map (with_gate r Doubtful) v.slots) c.deref.ensures.value in
-    let both : List Kept = c.note-in-Ok.new.self in
+    c.note_run.ensures ∙ ap (λ (r : List ℕ). map (with_gate r Doubtful) v.slots) c.deref.ensures.value in
+    let both : List Kept = c.note_run-in-Ok.new.self in
     let second : both ≡ map (with_gate v.run Open) (map (with_gate v.run Doubtful) v.slots) =
-    c.note-in-Ok.ensures ∙ ap (λ (r : List ℕ). map (with_gate r Open) one) c.deref-in-Ok.ensures.value ∙ ap (map (with_gate v.run Open)) first in
+    c.note_run-in-Ok.ensures ∙ ap (λ (r : List ℕ). map (with_gate r Open) one) c.deref-in-Ok.ensures.value ∙ ap (map (with_gate v.run Open)) first in
     let slots : List Kept = both in
     subst (λ (b : BankState). with_slots v Gates slots ≡ noted_as Gates Open b) c.self.view_is
     (ap (with_slots v Gates) (second ∙ again_with v.run v.slots))
@@ -222,9 +223,15 @@ invariant_of-self-in-Err g c =
       run = c.self.inside.run.items;
       slots = c.self.inside.slots;
     } in
-    let one : List Kept = c.note.new.self in
+    let one : List Kept = c.note_run.new.self in
     let first : one ≡ map (with_gate v.run Doubtful) v.slots =
-    c.note.ensures ∙ ap (λ (r : List ℕ). map (with_gate r Doubtful) v.slots) c.deref.ensures.value in
+    c.note_run.ensures ∙ ap (λ (r : List ℕ). map (with_gate r Doubtful) v.slots) c.deref.ensures.value in
     let phase : ◌≡◌ {A = Phase} c.self.inside.phase Bodies = search rules in
     let slots : List Kept = one in
     subst (λ (p : Phase). IsSound c.self.inside.file (with_slots v p slots)) (sym phase) (sound_doubted c.self.inside.file v c.self.invariant phase slots first)
+
+pub note_run-requires : goal.note_run-requires
+note_run-requires g c = subst (AllPairs (λ (a b : ℕ). a < b)) (sym c.deref.ensures.value) c.self.invariant.run_ascending
+
+pub note_run-requires-in-Ok : goal.note_run-requires-in-Ok
+note_run-requires-in-Ok g c = subst (AllPairs (λ (a b : ℕ). a < b)) (sym c.deref-in-Ok.ensures.value) c.self.invariant.run_ascending

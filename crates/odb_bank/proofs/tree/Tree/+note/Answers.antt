@@ -17,7 +17,7 @@ use Rattle.odb_bank.proofs.tree.Tree.+note.Goals.{in-Leaf, in-Fork}
 
 pub invariant_of-self : goal.invariant_of-self
 invariant_of-self t c =
-    let f = with_gate c.args.run.now c.args.gate in
+    let f = with_gate c.args.slots.now c.args.gate in
     let order : IsInOrder c.args.self.now = subst IsInOrder c.self.view_is c.self.invariant in
     let same : items c.match-self.self-inside.root ≡ map f c.args.self.now = first_of (search rules, grind (arith, common_steps)) in
-    subst IsInOrder (sym same) (order_map f (same_at c.args.run.now c.args.gate) c.args.self.now order)
+    subst IsInOrder (sym same) (order_map f (same_at c.args.slots.now c.args.gate) c.args.self.now order)

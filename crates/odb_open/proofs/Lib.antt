@@ -1,0 +1,2 @@
+pub mod ReadingFiles
+pub mod ReadingRows
