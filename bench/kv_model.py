@@ -536,7 +536,10 @@ class Model:
 
     def __init__(self, room=None):
         self.state, self.history, self.open, self.room = {}, [], {}, room
-        self.opened, self.records = 0, b""
+        self.opened = 0
+        # TRANSDB: how large a side is, the one that takes records, whether the other one is clean,
+        # and the records of each
+        self.side, self.active, self.is_clean, self.records = room, 0, True, [b"", b""]
 
     def reopen(self):
         """What a new play begins with."""
@@ -618,6 +621,13 @@ class Model:
         writes = define(statement, self.state)
         return self.seal(session, [(SYSDB, DICTIONARY, key, row) for key, row in writes.items()])
 
+    def turn(self):
+        """TURN, while no entry is in doubt."""
+        if not self.is_clean:
+            return "REFUSED NOTCLEAN"
+        self.active, self.is_clean, self.room = 1 - self.active, False, self.side
+        return f"TURNED {self.active} {len(self.history) + 1}"
+
     def seal(self, session, writes):
         """Puts an entry behind the others."""
         if len(self.history) >= MOST_ENTRIES:
@@ -632,8 +642,8 @@ class Model:
         for _, number, key, row in writes:
             put(self.state.setdefault(number, {}), key, row)
         self.history.append({(number, key) for _, number, key, _ in writes})
-        self.records += (b"\xa5" + len(text).to_bytes(4, "big")
-                         + len(self.history).to_bytes(8, "big") + text)
+        self.records[self.active] += (b"\xa5" + len(text).to_bytes(4, "big")
+                                      + len(self.history).to_bytes(8, "big") + text)
         return f"COMMITTED {len(self.history)}"
 
 

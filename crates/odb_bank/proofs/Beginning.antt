@@ -20,7 +20,7 @@ use Rattle.odb_bank.specs.declared.kept.Kept.{Kept}
 use Rattle.odb_bank.specs.declared.phase.Phase.TheVariants.{Idle}
 use Rattle.odb_bank.specs.Additions.{record_of}
 use Rattle.odb_bank.specs.Bank.{BankState, file_number, slot_limit, StandsFor, StandsByMark}
-use Rattle.odb_bank.specs.Begun.{AreConsecutive, IsNext, IsPlanned, IsReady, AreTaken, HasGrown, HasRun, HasItsGate, IsFilled, IsStillIdle, with_kept, with_run, SameOpen, KeepsTold, ClosesTold}
+use Rattle.odb_bank.specs.Begun.{AreConsecutive, IsNext, IsPlanned, IsReady, AreTaken, HasGrown, HasRun, HasItsGate, IsFilled, IsStillIdle, with_kept, SameOpen, KeepsTold, ClosesTold}
 use Rattle.odb_bank.specs.Closing.{staying_of, ClosesJust, HasRoomFor}
 use Rattle.odb_bank.specs.Files.{StandsAt}
 use Rattle.odb_bank.specs.Filling.{AreKeptFor, AreOf}

@@ -1,18 +1,17 @@
 -- The record of a key and the next key of a range, by what memory keeps.
-use Rattle.std.proofs.Common.{◌≡◌, ◌≢◌, ◌⊎◌, inl, inr, ℕ, zero, suc, ◌+◌, ◌<◌, Bool, true, false, cond, List, [], ◌∷◌, length, get_or, Option, Some, None, sym, ◌∙◌, ap, subst, refl, arith}
+use Rattle.std.proofs.Common.{◌≡◌, ◌≢◌, ℕ, zero, suc, ◌+◌, ◌<◌, Bool, true, false, cond, List, [], ◌∷◌, length, Option, Some, None, sym, ◌∙◌, ap, subst, refl, arith}
 use Rattle.std.specs.Prelude.{slice_get, find, is_some, IsTrue, IsSome, ◌&&◌, ◌==◌}
 use Rattle.std.specs.List.{All}
 use Rattle.std.specs.declared.cmp.Ordering.{Ordering}
 use Rattle.std.specs.declared.cmp.Ordering.TheVariants.{Less, Equal, Greater}
-use Rattle.std.specs.Ordering.{is_gt, is_lt, is_eq, nat_cmp, ordering_then}
+use Rattle.std.specs.Ordering.{is_gt, is_lt, is_eq, ordering_then}
 use Rattle.std.proofs.lemmas.Bool.{eqb-true, and_parts, and_from}
 use Rattle.std.proofs.lemmas.Cmp.{tied_itself, nat_cmp_total}
-use Rattle.std.proofs.lemmas.Option.{slice_get_within}
 use Rattle.odb_values.specs.declared.range.Range.{Range}
 use Rattle.odb_values.specs.declared.value.Value.{Value}
 use Rattle.odb_values.specs.Range.{in_range, is_inside}
 use Rattle.odb_values.specs.Value.{values_cmp}
-use Rattle.odb_model.specs.State.{table_key_cmp, is_in}
+use Rattle.odb_model.specs.State.{table_key_cmp}
 use Rattle.odb_rowsource.specs.Stand.{stand, is_behind}
 use Rattle.odb_rowsource.proofs.Stands.{stand-inside}
 use Rattle.odb_model.proofs.Replay.{table_key_cmp_total}
@@ -22,8 +21,8 @@ use Rattle.odb_bank.specs.declared.kept.Kept.{Kept}
 use Rattle.odb_bank.specs.Best.{is_for, better_of, best_in, has_row_of, has_row_in, is_reached}
 use Rattle.odb_bank.specs.Choosing.{IsFor, IsBestAt, IsBest, is_better}
 use Rattle.odb_bank.specs.Closing.{is_open}
-use Rattle.odb_bank.specs.History.{Key, Row, is_key}
-use Rattle.odb_bank.specs.Order.{IsUpTo, Each, IsInOrder}
+use Rattle.odb_bank.specs.History.{Key, is_key}
+use Rattle.odb_bank.specs.Order.{IsUpTo, IsInOrder}
 use Rattle.odb_bank.specs.Records.{Record, record_of, row_of, bank_map, IsRecord}
 use Rattle.odb_bank.specs.Known.{Known, sure_of}
 use Rattle.odb_bank.specs.Bank.{IsKnownBy, AreKnownBy}

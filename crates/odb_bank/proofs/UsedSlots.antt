@@ -1,5 +1,5 @@
 -- The set of the slots in use.
-use Rattle.std.proofs.Common.{◌≡◌, ◌⊎◌, inl, inr, ℕ, ◌+◌, ◌<◌, Bool, true, false, cond, List, [], sym, ◌∙◌, ap, subst, refl, length, arith}
+use Rattle.std.proofs.Common.{◌≡◌, inl, inr, ℕ, ◌+◌, ◌<◌, Bool, true, false, cond, List, [], sym, ◌∙◌, ap, subst, refl, length, arith}
 use Rattle.std.specs.Prelude.{slice_index}
 use Rattle.std.specs.BTreeSet.{BTreeSet, contains, keys}
 use Rattle.std.specs.BTreeMap.{is_at}

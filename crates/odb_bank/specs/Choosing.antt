@@ -1,17 +1,12 @@
 -- Which of what memory keeps is the record of a key.
-use Rattle.std.specs.Prelude.{◌≡◌, ◌≢◌, ◌⊎◌, ℕ, ◌<◌, ◌≤◌, Bool, true, false, nat_lt, ◌==◌, ◌&&◌, ◌||◌, List, length, slice_get, Option, Some, None, IsTrue}
-use Rattle.std.specs.Ordering.{is_gt}
-use Rattle.odb_values.specs.declared.range.Range.{Range}
+use Rattle.std.specs.Prelude.{◌≡◌, ℕ, ◌<◌, ◌≤◌, Bool, nat_lt, ◌==◌, ◌&&◌, ◌||◌, List, slice_get, Option, Some, None}
 use Rattle.odb_values.specs.declared.value.Value.{Value}
-use Rattle.odb_values.specs.Range.{in_range}
-use Rattle.odb_values.specs.Value.{values_cmp}
 use Rattle.odb_slots.specs.Slots.{OPEN, gate_at}
 use Rattle.odb_slots.specs.Views.{spelled}
 use Rattle.odb_bank.specs.declared.kept.Gate.TheVariants.{Open}
 use Rattle.odb_bank.specs.declared.kept.Kept.{Kept}
 use Rattle.odb_bank.specs.History.{Key}
 use Rattle.odb_bank.specs.Records.{Record}
-use Rattle.odb_bank.specs.Reading.{IsAfter}
 use Rattle.odb_bank.specs.Spelled.{record_of_slot}
 
 -- it is of the key, and open on the disk

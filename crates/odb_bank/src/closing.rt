@@ -32,6 +32,7 @@ pub(crate) fn staying_slots(alloc: Global, slots: &Tree, mark: u64) -> Result<Ve
     Ok(staying)
 }
 
+/// Whether a turn closes the slot of a record: it is in doubt or stale.
 pub(crate) fn is_closing(slots: &Tree, mark: u64, it: &Kept) -> bool
     ensures { result ≡ is_closing mark slots.now it.now }
 {
@@ -42,6 +43,7 @@ pub(crate) fn is_closing(slots: &Tree, mark: u64, it: &Kept) -> bool
     }
 }
 
+/// Whether a turn leaves the slot of a record as it is.
 pub(crate) fn is_staying(slots: &Tree, mark: u64, it: &Kept) -> bool
     ensures { result ≡ not (is_closing mark slots.now it.now) }
 {
@@ -56,6 +58,7 @@ fn is_stale(slots: &Tree, mark: u64, it: &Kept) -> bool
     slots.supersedes(it) || (!it.has_row && it.stamp <= mark && !slots.has_older(it))
 }
 
+/// Whether a gate is known to be open on the disk.
 pub(crate) fn is_open(gate: Gate) -> bool
     ensures { result ≡ is_open gate }
 {
@@ -66,18 +69,22 @@ pub(crate) fn is_open(gate: Gate) -> bool
     }
 }
 
+/// Whether two records are of one key.
 fn is_key(a: &Kept, b: &Kept) -> bool
     ensures { result ≡ is_key a.now.at b.now.at }
 {
     a.at.table == b.at.table && cmp_key(&a.at.key, &b.at.key) == Ordering::Equal
 }
 
+/// Whether a record takes the place of another of its key: its stamp is higher, or it is the same and
+/// its slot is lower.
 pub(crate) fn supersedes(by: &Kept, it: &Kept) -> bool
     ensures { result ≡ supersedes by.now it.now }
 {
     is_key(by, it) && (it.stamp < by.stamp || (by.stamp == it.stamp && by.slot < it.slot))
 }
 
+/// Whether a record is of another's key and has a lower stamp.
 pub(crate) fn is_older(other: &Kept, it: &Kept) -> bool
     ensures { result ≡ is_older other.now it.now }
 {

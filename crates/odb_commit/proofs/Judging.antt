@@ -7,7 +7,7 @@ use Rattle.odb_model.specs.Transaction.{Executed, write_set_of, net, reads_of, f
 use Rattle.odb_model.specs.Intentions.{intended}
 use Rattle.odb_model.specs.Width.{record_width}
 use Rattle.odb_model.specs.Window.{window_start, oldest_number}
-use Rattle.odb_model.specs.Sides.{Sides, room_left}
+use Rattle.odb_machine.specs.Sides.{Sides, room_left}
 use Rattle.odb_transdb.specs.Standing.{room_of as room_in}
 use Rattle.odb_validate.specs.Validation.{by_age, validated}
 use Rattle.odb_validate.proofs.Windows.{IsWindow-last, IsWindow-judges}
@@ -15,7 +15,7 @@ use Rattle.odb_txn.specs.Transaction.{Kept, StandsFor as TxnStandsFor}
 use Rattle.odb_txn.proofs.Alike.{conflict_alike}
 use Rattle.odb_txn.proofs.Stands.{stands_net}
 use Rattle.odb_commit.specs.declared.error.CommitError.TheVariants as e
-use Rattle.odb_model.specs.Book.{Book, Verdict, by_net as net_verdict, by_conflict, unless_aged as age_verdict, by_doubt, verdict, next_entry, room_of, most_entries}
+use Rattle.odb_machine.specs.Book.{Book, Verdict, by_net as net_verdict, by_conflict, unless_aged as age_verdict, by_doubt, verdict, next_entry, room_of, most_entries}
 use Rattle.odb_commit.specs.Parts.{Parts, count, Preparation, Refuses, Ends, ToSeal, entry_after, sealing_of, by_writes, by_validation, by_halt, prepared}
 use Rattle.odb_commit.specs.Standing.{StandsFor, sealing_in, preparation_of}
 use Rattle.odb_commit.proofs.Records.{room_agrees}

@@ -1,5 +1,6 @@
+pub mod Sealed
 pub mod Records
 pub mod Judging
 pub mod Following
-pub mod Sealed
 pub mod Prepared
+pub mod Turned

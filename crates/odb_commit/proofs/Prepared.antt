@@ -9,7 +9,7 @@ use Rattle.odb_codec.proofs.Lengths.{length-entry_image}
 use Rattle.odb_transdb.specs.Standing.{room_of}
 use Rattle.odb_validate.specs.Window.{reserve}
 use Rattle.odb_commit.specs.declared.error.CommitError.TheVariants as e
-use Rattle.odb_model.specs.Book.{most_entries}
+use Rattle.odb_machine.specs.Book.{most_entries}
 use Rattle.odb_commit.specs.Parts.{Parts, count, IsAligned, CanSeal, Preparation, Refuses, ToSeal, sealing_of, entry_after, by_writes}
 
 at_least : (m n : ℕ) → m ≤ n → nat_le m n ≡ true

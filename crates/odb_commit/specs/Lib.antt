@@ -1,3 +1,4 @@
 pub mod Parts
 pub mod Sealing
 pub mod Standing
+pub mod Turned

@@ -10,7 +10,7 @@ use Rattle.odb_validate.specs.declared.error.Aged.{Aged}
 use Rattle.odb_validate.specs.Window.{Windowed, last_number, reserve}
 use Rattle.odb_validate.specs.Validation.{validated}
 use Rattle.odb_txn.specs.Transaction.{Kept}
-use Rattle.odb_model.specs.Book.{most_entries}
+use Rattle.odb_machine.specs.Book.{most_entries}
 use Rattle.odb_commit.specs.declared.ready.Ready.{Ready}
 use Rattle.odb_commit.specs.declared.ready.Ready.TheVariants.{Ended, Sealing}
 use Rattle.odb_commit.specs.declared.error.CommitError.{CommitError}

@@ -3,14 +3,14 @@ use Rattle.std.specs.Prelude.{◌≡◌, ℕ, ◌+◌, ◌-◌, nat_lt, nat_le, 
 use Rattle.odb_model.specs.declared.write.Write.{Write}
 use Rattle.odb_model.specs.declared.entry.Entry.{Entry}
 use Rattle.odb_model.specs.State.{IsHistory}
-use Rattle.odb_model.specs.Sides.{Sides}
+use Rattle.odb_machine.specs.Sides.{Sides}
 use Rattle.odb_transdb.specs.declared.header.Header.{Header}
 use Rattle.odb_model.specs.Width.{records_width}
 use Rattle.odb_transdb.specs.Header.{side_size, active_first}
 use Rattle.odb_transdb.specs.Standing.{Db, IsPlaced}
 use Rattle.odb_validate.specs.Window.{IsWindow}
 use Rattle.odb_commit.specs.declared.error.CommitError.TheVariants as e
-use Rattle.odb_model.specs.Book.{Book, Verdict, Halted, Aged, Conflict, Ended, Writes, next_entry, need_of, room_of, most_entries}
+use Rattle.odb_machine.specs.Book.{Book, Verdict, Halted, Aged, Conflict, Ended, Writes, next_entry, need_of, room_of, most_entries}
 use Rattle.odb_commit.specs.Parts.{Parts, Preparation, Refuses, Ends, ToSeal}
 
 -- TRANSDB as a book of the definitions has it

@@ -3,7 +3,8 @@ ghost use Rattle.std.specs.Prelude.{◌≡◌, ◌≢◌, ◌+◌, ◌-◌, ◌<
 ghost use Rattle.odb_device.specs.World.{file_of};
 ghost use Rattle.odb_model.specs.Script.{IsSession};
 ghost use Rattle.odb_model.specs.Storable.{IsStorableList};
-ghost use Rattle.odb_transdb.specs.Standing.{Stands};
+ghost use Rattle.odb_machine.specs.Book.{most_entries};
+ghost use Rattle.odb_transdb.specs.Turning.{MayStand};
 ghost use Rattle.odb_validate.specs.Window.{last_number};
 
 use crate::{CommitError, Ready};
@@ -51,7 +52,8 @@ impl Model for Book {
 
 impl Book {
     ghost use Rattle.odb_commit.specs.Parts.{Parts, IsAligned, count, prepared, IsPrepared, entry_after, sealing_of, IsReady, IsLeft, CanSeal};
-    ghost use Rattle.odb_commit.specs.Sealing.{SealsReady, IsSealed, ForcesEntry, Forces};
+    ghost use Rattle.odb_commit.specs.Sealing.{SealsReady, IsSealed, SealsEntry, SealsLog};
+    ghost use Rattle.odb_commit.specs.Turned.{TurnsLog};
 
     /// The book of a log that was opened and a window that ends at its last entry. It takes no memory.
     pub fn new(_alloc: Global, transdb: Transdb, window: Window) -> Book
@@ -160,8 +162,8 @@ impl Book {
     /// Forces the record of an entry that `prepare` made ready, with no other call between, and puts the
     /// entry behind the others; answers its number once it is on the disk. It takes no memory.
     ///
-    /// It costs what `Transdb::force` costs. At each moment a crash leaves the entries before, or those
-    /// and this one.
+    /// It costs what `Transdb::force` costs; behind a `turn` that failed the header is put once more
+    /// before all else. At each moment a crash leaves the entries before, or those and this one.
     ///
     /// - `FaultBefore`: a call of the store failed before the record's gate was written, and the entry
     ///   isn't there. The transaction may be prepared again.
@@ -169,9 +171,9 @@ impl Book {
     ///   book is halted.
     pub fn seal<S: Store>(&mut self, store: &mut S, ready: Ready) -> Result<u64, CommitError>
         requires ready { IsReady self.old ready }
-        requires stands { Stands self.old.transdb (file_of 0 (S.world store.old)) }
+        requires stands { MayStand self.old.transdb (file_of 0 (S.world store.old)) }
         ensures sealed { SealsReady ready result self.old self.new }
-        ensures forces { ForcesEntry ready result self.old.transdb self.new.transdb
+        ensures log { SealsEntry ready result self.old.transdb self.new.transdb
             (S.world store.old) (S.world store.new) }
         ensures aligned { IsAligned self.new }
     {
@@ -179,6 +181,27 @@ impl Book {
             Ready::Ended(_) => unreachable!(),
             Ready::Sealing(entry, image) => self.seal_entry(store, entry, image),
         }
+    }
+
+    /// Makes the other side of the log active, where that is Clean: the next entry is its first, and
+    /// the side that was active is Live. It takes no memory.
+    ///
+    /// It costs what `Transdb::turn` costs. At each moment a crash leaves the same entries.
+    ///
+    /// - `NotClean`: the other side isn't Clean. No call of the store was made.
+    /// - `Fault`: a call of the store failed. All is as before but that a crash may leave either
+    ///   header; it may be called again, and so may all else.
+    pub fn turn<S: Store>(&mut self, store: &mut S) -> Result<(), TransdbError>
+        requires settled { self.old.halted ≡ None }
+        requires aligned { IsAligned self.old }
+        requires few { count self.old ≤ most_entries }
+        requires stands { MayStand self.old.transdb (file_of 0 (S.world store.old)) }
+        ensures log { TurnsLog result self.old.transdb self.new.transdb
+            (S.world store.old) (S.world store.new) }
+        ensures rest { self.new ≡ record self.old { transdb = self.new.transdb } }
+        ensures aligned { IsAligned self.new }
+    {
+        self.transdb.turn(store)
     }
 
     /// Forces the record of an entry with this image, and puts it behind the others.
@@ -189,9 +212,9 @@ impl Book {
         image: Bytes,
     ) -> Result<u64, CommitError>
         requires ready { CanSeal self.old entry image }
-        requires stands { Stands self.old.transdb (file_of 0 (S.world store.old)) }
+        requires stands { MayStand self.old.transdb (file_of 0 (S.world store.old)) }
         ensures sealed { IsSealed entry result self.old self.new }
-        ensures forces { Forces entry image result self.old.transdb self.new.transdb
+        ensures log { SealsLog entry image result self.old.transdb self.new.transdb
             (S.world store.old) (S.world store.new) }
         ensures aligned { IsAligned self.new }
     {

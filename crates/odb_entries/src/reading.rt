@@ -21,7 +21,7 @@ use std::alloc::{AllocError, Global};
 /// `first`, and adds those of its entries that have a number from `from` on.
 ///
 /// Refuses a place that is no record of the next number and a payload that is no entry, at the
-/// place; those before it are added then.
+/// place; of the entries before it some first ones are added then.
 ///
 /// It reads in pieces of 65,536 bytes, by a window on the stack, and takes memory for one record at
 /// a time besides the entries.

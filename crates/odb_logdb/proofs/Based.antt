@@ -72,7 +72,7 @@ pub of_any : (o : Option File) (P : File → Type 0) → ((f : File) → P f) �
 of_any None P each = tt
 of_any (Some f) P each = each f
 
-same_opened : (o p : Option File) → p ≡ o → KeepsOpened o p
+pub same_opened : (o p : Option File) → p ≡ o → KeepsOpened o p
 same_opened None p is = is
 same_opened (Some g) p is = subst (KeepsOpened (Some g)) (sym is) (λ image im. (image, im, refl))
 

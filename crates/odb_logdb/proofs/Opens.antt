@@ -107,5 +107,5 @@ module _ (e : ExtentState) (f : LogFields) (w w1 w2 : World) (limit s t : ℕ) (
     pub stands_at : IfTold 1 w2 (λ bytes. IsChecked {T = Unit {0}} (log_entries log bytes) (Ok tt)) → Stands (made e f is log of list) (file_of 1 w3)
     stands_at checked = subst (Stands (made e f is log of list)) (sym still) (stands_made e f is log of list found.settled (file_of 1 w2) reads_2 opened_based is_opened.stands checked)
 
-    pub made_at : IsLogdb (made e f is log of list)
-    made_at = made_is e f is log of list found.file found.most found.settled is_opened.in_doubt
+    pub made_at : 1 ≤ limit → limit ≤ e.most → IsLogdb (made e f is log of list)
+    made_at low high = made_is e f is log of list found.file found.most (omega (arith, low, is_limit)) (omega (arith, high, is_limit)) found.settled is_opened.in_doubt

@@ -1,12 +1,12 @@
 -- What an opening finds.
-use Rattle.std.proofs.Common.{◌≡◌, ◌≢◌, ℕ, ◌+◌, ◌≤◌, Bool, true, false, List, [], length, take, Option, Some, None, Result, Ok, Err, refl, sym, ◌∙◌, ap, subst, arith}
+use Rattle.std.proofs.Common.{◌≡◌, ◌≢◌, inl, ℕ, ◌+◌, ◌≤◌, Bool, true, false, List, [], ◌∷◌, length, take, Option, Some, None, Result, Ok, Err, refl, sym, ◌∙◌, ap, subst, arith}
 use Rattle.std.specs.Prelude.{◌==◌, IfSome, is_some, if◌then◌else◌}
 use Rattle.std.proofs.lemmas.Bool.{false≢true, eqb-true, eqb-false}
 use Rattle.std.proofs.lemmas.List.{take_all}
 use Rattle.odb_device.specs.World.{File}
 use Rattle.odb_device.specs.Images.{EachImage, ReadsImage}
-use Rattle.odb_extent.specs.Opened.{content_end}
-use Rattle.odb_extent.specs.Standing.{ExtentState, limit_of, fields_of, IsSettled}
+use Rattle.odb_extent.specs.Opened.{content_end, limit_in, fields_in}
+use Rattle.odb_extent.specs.Standing.{ExtentState, limit_of, fields_of, limit_tried, fields_tried, IsSound, IsSettled}
 use Rattle.odb_reclog.specs.Records.{log_of}
 use Rattle.odb_reclog.specs.Standing.{Log, Stands as LogStands}
 use Rattle.odb_entries.specs.Listed.{entries_from, log_entries}
@@ -15,12 +15,13 @@ use Rattle.odb_model.specs.declared.entry.Entry.{Entry}
 use Rattle.odb_logdb.specs.declared.fields.LogFields.{LogFields}
 use Rattle.odb_logdb.specs.declared.error.LogdbError.{LogdbError}
 use Rattle.odb_logdb.specs.declared.error.LogdbError.TheVariants.{Fault, LogFull, NotHeld, Damaged, NoMemory}
+use Rattle.odb_logdb.specs.declared.state.ListState.{ListState}
 use Rattle.odb_logdb.specs.declared.state.ListState.TheVariants.{Known, Dirty}
 use Rattle.odb_logdb.specs.ListStates.{list_state}
 use Rattle.odb_logdb.specs.Fields.{LIVE, DIRTY, lawful_in}
-use Rattle.odb_logdb.specs.Opened.{Opened, MOST, Holds, holding, records_start, with_entries, opened, entries_of, entries_in}
+use Rattle.odb_logdb.specs.Opened.{Opened, MOST, holding, records_start, with_entries, opened, entries_of, entries_in}
 use Rattle.odb_logdb.specs.Opening.{list_start, IsChecked}
-use Rattle.odb_logdb.specs.Standing.{LogState, IsLogdb, IsInState, StandsFor, StandsIn, Stands, next_by, count_of, held}
+use Rattle.odb_logdb.specs.Standing.{LogState, IsLogdb, IsInState, HoldsBy, StandsFor, StandsIn, Stands, next_by, count_of, held}
 use Rattle.odb_logdb.specs.Answers.{IsOpenAnswer}
 use Rattle.odb_logdb.proofs.Opened.{IsLawful, none_listed}
 use Rattle.odb_logdb.proofs.Based.{IsBased, its_law, told, opens_based}
@@ -136,15 +137,32 @@ module _ (e : ExtentState) (f : LogFields) (is : lawful_in (limit_of e) (fields_
     held_is : held made (Some p) ≡ all
     held_is = ap (λ (o : Opened). take (count_of made) (entries_of o)) (opens_all p.bytes (based p.bytes reads)) ∙ take_all (count_of made) all (omega (arith, count_is))
 
+    none_all : (image : List ℕ) → Based image → (f.state == DIRTY) ≡ true → all ≡ []
+    none_all image b dirty =
+        let count : length all ≡ 0 = omega (arith, count_read f.first (list_start (limit_of e) f) list all read, ap (length {A = List ℕ}) (none_dirty image b dirty)) in
+        empty_list all count
+      where
+        empty_list : (l : List Entry) → length l ≡ 0 → l ≡ []
+        empty_list [] is = refl
+        empty_list (x ∷ xs) is = absurd (omega (arith, is))
+
+    alike : lawful_in (limit_of e) (fields_tried e) ≡ Some f
+    alike = ap (λ (l : List ℕ). lawful_in (limit_of e) (fields_in l)) settled.tried ∙ is
+
+    made_holds : (image : List ℕ) → Based image → HoldsBy made (list_state f) all image
+    made_holds image b = of_test (f.state == DIRTY) refl
+      where
+        of_test : (d : Bool) → (f.state == DIRTY) ≡ d → HoldsBy made (list_state f) all image
+        of_test true dirty =
+            subst (λ (s : ListState). HoldsBy made s all image) (sym (ap (λ (d : Bool). if d then Dirty else Known) dirty))
+            (record { holds = opens_all image b; none = none_all image b dirty; tried = inl alike })
+        of_test false live =
+            subst (λ (s : ListState). HoldsBy made s all image) (sym (ap (λ (d : Bool). if d then Dirty else Known) live)) (opens_all image b, read_list image b ∙ read)
+
     made_each : EachImage (StandsFor made (held made (Some p))) (Some p)
     made_each = λ image im.
         let b = based image im in
-        record {
-          extents = b.extents;
-          long = b.long;
-          holds = subst (λ (l : List Entry). Holds f.first l image) (sym held_is) (opens_all image b);
-          read = λ known. read_list image b ∙ read ∙ ap Ok (sym held_is);
-        }
+        subst (λ (l : List Entry). StandsFor made l image) (sym held_is) (record { extents = b.extents; long = b.long; holds = made_holds image b })
 
     pub made_stands : StandsIn made p
     made_stands = record {
@@ -162,26 +180,32 @@ module _ (e : ExtentState) (f : LogFields) (is : lawful_in (limit_of e) (fields_
   stands_made settled (Some p) reads based stands checked = made_stands settled p reads based stands checked.0 (sym (read_list p.bytes (based p.bytes reads)) ∙ checked.1)
 
   -- it is one of the log's values
-  pub made_is : e.pair.file ≡ 1 → e.most ≡ MOST → IsSettled e → log.in_doubt ≡ false → IsLogdb made
-  made_is file most settled usable = record {
+  pub made_is : e.pair.file ≡ 1 → e.most ≡ MOST → 1 ≤ limit_of e → limit_of e ≤ e.most → IsSettled e → log.in_doubt ≡ false → IsLogdb made
+  made_is file most low high settled usable = record {
     file = file;
     most = most;
+    sound = settled_sound;
     fields = is;
     log_file = of.file;
     first = of.first;
     in_state = of_test (f.state == DIRTY) refl;
   }
     where
+      tried_is : limit_tried e ≡ limit_of e
+      tried_is = ap limit_in settled.tried
+
+      settled_sound : IsSound e
+      settled_sound = record { low = low; high = high; most = omega (arith, most); tried_low = omega (arith, tried_is); tried_high = omega (arith, tried_is, high) }
+
       law : IsLawful (limit_of e) f
       law = its_law e f is
 
       of_test : (d : Bool) → (f.state == DIRTY) ≡ d → IsInState made (list_state f)
-      of_test true dirty = subst (IsInState made) (sym (ap (λ (d : Bool). if d then Dirty else Known) dirty)) (eqb-true f.state DIRTY dirty)
+      of_test true dirty = subst (IsInState made) (sym (ap (λ (d : Bool). if d then Dirty else Known) dirty)) (record { dirty = eqb-true f.state DIRTY dirty; limit = tried_is })
       of_test false live =
           let other : f.state ≢ DIRTY = eqb-false f.state DIRTY live in
           let start : list_start (limit_of e) f ≡ records_start f = ap (λ (b : Bool). if b then content_end (limit_of e) else records_start f) live in
           subst (IsInState made) (sym (ap (λ (d : Bool). if d then Dirty else Known) live)) (record {
-            region = record { live = live_is f.state law.low law.high other; start = of.start ∙ start; end = of.end };
-            settled = settled;
+            region = record { live = live_is f.state law.low law.high other; alike = ap fields_in settled.tried; start = of.start ∙ start; end = of.end };
             usable = usable;
           })

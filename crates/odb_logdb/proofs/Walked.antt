@@ -12,9 +12,10 @@ use Rattle.odb_entries.specs.Listed.{log_entries}
 use Rattle.odb_entries.specs.Walking.{IsReadOf, AddsSome}
 use Rattle.odb_model.specs.declared.entry.Entry.{Entry}
 use Rattle.odb_model.specs.State.{IsNumberedFrom}
+use Rattle.odb_logdb.specs.declared.state.ListState.{ListState}
 use Rattle.odb_logdb.specs.declared.state.ListState.TheVariants.{Known, Dirty}
 use Rattle.odb_logdb.specs.Opened.{entries_in}
-use Rattle.odb_logdb.specs.Standing.{LogState, StandsFor, StandsIn, Stands, first_of, next_by, next_of, count_of, held}
+use Rattle.odb_logdb.specs.Standing.{LogState, HoldsBy, StandsFor, StandsIn, Stands, first_of, next_by, next_of, count_of, held}
 use Rattle.odb_logdb.specs.Worlds.{KeepsStanding, AreFrom}
 
 numbered_take : (k n : ℕ) (es : List Entry) → IsNumberedFrom n es → IsNumberedFrom n (take k es)
@@ -50,7 +51,7 @@ ok_map (Ok x) P Q here give = give x here
 ok_map (Err e) P Q here give = tt
 
 -- a log that stands, through reads
-each_of : (l : LogState) (o : Option File) → Stands l o → EachImage (StandsFor l (held l o)) o
+pub each_of : (l : LogState) (o : Option File) → Stands l o → EachImage (StandsFor l (held l o)) o
 each_of l None stands = tt
 each_of l (Some g) stands = stands.each
 
@@ -71,7 +72,7 @@ log_stands l None known stands = tt
 log_stands l (Some g) known stands = stands.log known
 
 read_known : (l : LogState) (g : File) → l.state ≡ Known → ReadsImage (Some g) → StandsIn l g → log_entries l.log g.bytes ≡ Ok (held l (Some g))
-read_known l g known reads stands = (stands.each g.bytes reads).read known
+read_known l g known reads stands = (subst (λ (s : ListState). HoldsBy l s (held l (Some g)) g.bytes) known (stands.each g.bytes reads).holds).1
 
 -- a list of as many entries as are counted ends with the last number
 pub whole_front : (l : LogState) (from : ℕ) (all : List Entry) → first_of l ≤ from → length all ≡ count_of l → take (next_of l - from) (drop (from - first_of l) all) ≡ drop (from - first_of l) all

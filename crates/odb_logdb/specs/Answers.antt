@@ -6,7 +6,8 @@ use Rattle.odb_entries.specs.Listed.{log_entries}
 use Rattle.odb_model.specs.declared.entry.Entry.{Entry}
 use Rattle.odb_logdb.specs.declared.error.LogdbError.{LogdbError}
 use Rattle.odb_logdb.specs.declared.error.LogdbError.TheVariants.{Fault, LogFull, NotHeld, Damaged, NoMemory}
-use Rattle.odb_logdb.specs.Opened.{Opened, damaged, holding, opened}
+use Rattle.odb_reclog.specs.Standing.{Log}
+use Rattle.odb_logdb.specs.Opened.{Opened, damaged, holding, records_start, opened}
 use Rattle.odb_logdb.specs.Standing.{LogState, first_of, next_of, count_of}
 
 -- `open` finds what the bytes stand for, and counts its entries; a fault and want of memory may come
@@ -44,8 +45,14 @@ KeepsOpened None new = new ≡ None
 KeepsOpened (Some old) new =
     EachImage (λ image. (before : List ℕ) × IsImage old before × (opened image ≡ opened before)) new
 
--- `entries_in` gives those of the entries of the list that have a number from `from` on to the last
--- one held
-abbrev pub GivesFrom : LogState → ℕ → Result (List Entry) LogdbError → List ℕ → Type 0
-GivesFrom l from result bytes = (all : List Entry) → log_entries l.log bytes ≡ Ok all
+-- a record log of file 1 that begins where that of a log does
+pub record IsLogOf (l : LogState) (log : Log) : Type 0 where
+  pub file : log.file ≡ 1
+  pub start : log.start ≡ records_start l.fields
+  pub first : log.first ≡ first_of l
+
+-- `entries_in` gives those of the entries of the list of a record log that have a number from
+-- `from` on to the last one held
+abbrev pub GivesFrom : LogState → Log → ℕ → Result (List Entry) LogdbError → List ℕ → Type 0
+GivesFrom l log from result bytes = (all : List Entry) → log_entries log bytes ≡ Ok all
     → IfOk result (λ es. es ≡ take (next_of l - from) (drop (from - first_of l) all))

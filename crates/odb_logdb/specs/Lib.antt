@@ -5,3 +5,6 @@ pub mod Answers
 pub mod Worlds
 pub mod Opening
 pub mod ListStates
+pub mod Adding
+pub mod Appending
+pub mod Finishing

@@ -13,7 +13,7 @@ pub enum LogdbError {
     #[error("a call on the file failed")]
     Fault,
     /// 2: the record of the next entry needs so many bytes, and so many are left of the 1,024
-    /// extents that the file may have. No call here refuses it: it is for those that add entries.
+    /// extents that the file may have. The entries before it are held.
     #[error("the record needs {need} bytes of {room}")]
     LogFull { need: u64, room: u64 },
     /// 3: the entries from that number on aren't all held; the first one held has this number.
@@ -42,4 +42,15 @@ impl From<AllocError> for LogdbError {
     fn from(_error: AllocError) -> LogdbError {
         LogdbError::NoMemory
     }
+}
+
+/// What adding a record refuses.
+#[derive(Clone, Copy, Debug, PartialEq, Eq)]
+pub(crate) enum AddError {
+    /// A call of the store failed before the record's gate was written.
+    Fault,
+    /// A call failed from the gate's write on: the record may be there.
+    InDoubt,
+    /// The record needs so many bytes, and so many are left.
+    Full { need: u64, room: u64 },
 }

@@ -76,7 +76,8 @@ impl Logdb {
 
     /// The number of the next entry.
     pub(crate) fn next_number(&self) -> u64
-        ensures { result ≡ next_of self.now }
+        ensures next { result ≡ next_of self.now }
+        ensures first { self.now.log.first ≡ first_of self.now }
     {
         match self.state {
             ListState::Dirty => self.fields.first,

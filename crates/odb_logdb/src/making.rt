@@ -10,10 +10,10 @@ ghost use Rattle.odb_logdb.specs.Fields.{fields_image};
 
 use crate::fields::LIVE;
 use crate::logdb::{CONTENT, FILE, MOST, content_end};
-use crate::opening::open_log;
 use crate::{ListState, LogFields, Logdb, LogdbError};
 use odb_device::Store;
 use odb_extent::Extents;
+use odb_reclog::RecLog;
 
 impl Logdb {
     ghost use Rattle.odb_logdb.specs.Opened.{Holds};
@@ -21,9 +21,8 @@ impl Logdb {
 
     /// Makes file 1 a log without entries, of one extent, whose first entry will have this number.
     ///
-    /// It costs what `Extents::format` costs, 19 writes and four syncs, and then one sync and two
-    /// reads. A crash before it ends, and `Fault`, the only refusal, may leave any bytes in the
-    /// extent and the pair.
+    /// It costs what `Extents::format` costs, 19 writes and four syncs. A crash before it ends, and
+    /// `Fault`, the only refusal, may leave any bytes in the extent and the pair.
     pub fn format<S: Store>(store: &mut S, first: u64) -> Result<Logdb, LogdbError>
         requires { (1 ≤ first) × (first ≤ 2 ^ 63) }
         ensures run { WritesWithin 1 0 (content_end 1) (S.world store.old) (S.world store.new) }
@@ -34,7 +33,7 @@ impl Logdb {
     {
         let fields = LogFields::new(LIVE, first);
         let extents = new_extents(store, &fields)?;
-        let log = open_log(store, CONTENT, content_end(1), first)?;
+        let log = RecLog::begin(FILE, CONTENT, content_end(1), first);
         Ok(Logdb {
             extents,
             fields,

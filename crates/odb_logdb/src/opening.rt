@@ -13,7 +13,7 @@ ghost use Rattle.odb_logdb.specs.Fields.{lawful_in};
 ghost use Rattle.odb_logdb.specs.Opened.{opened};
 ghost use Rattle.odb_logdb.specs.Opening.{HasExtents, IsExtentsAnswer, IsLongAnswer, IsChecked};
 ghost use Rattle.odb_logdb.specs.Answers.{IsOpenAnswer, IsOpenRefusal};
-ghost use Rattle.odb_logdb.specs.Worlds.{OpensAsBefore, SameEntries};
+ghost use Rattle.odb_logdb.specs.Worlds.{OpensAsBefore, OnlyClosesGate, SameEntries};
 ghost use Rattle.odb_logdb.specs.Standing.{Stands};
 
 use crate::logdb::{FILE, MOST, content_end};
@@ -43,6 +43,7 @@ impl Logdb {
         ensures answer { IfTold 1 (S.world store.old)
             (λ bytes. IsOpenAnswer result (opened bytes)) }
         ensures leaves { OpensAsBefore (S.world store.old) (S.world store.new) }
+        ensures gate { OnlyClosesGate (S.world store.old) (S.world store.new) }
         ensures entries { IfOk result (λ _. SameEntries (S.world store.old) (S.world store.new)) }
         ensures stands { IfOk result (λ l. Stands l (file_of 1 (S.world store.new))) }
         ensures refusal { IsOpenRefusal result }
@@ -104,6 +105,7 @@ fn open_content<S: Store>(
     ensures answer { IfTold 1 (S.world store.old)
         (λ bytes. IsOpenAnswer result (opened bytes)) }
     ensures leaves { OpensAsBefore (S.world store.old) (S.world store.new) }
+    ensures gate { OnlyClosesGate (S.world store.old) (S.world store.new) }
     ensures entries { IfOk result (λ _. SameEntries (S.world store.old) (S.world store.new)) }
     ensures stands { IfOk result (λ l. Stands l (file_of 1 (S.world store.new))) }
     ensures refusal { IsOpenRefusal result }

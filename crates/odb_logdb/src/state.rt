@@ -5,6 +5,8 @@
 pub enum ListState {
     /// All of it.
     Known,
+    /// All but whether the record is there whose gate was to be opened when a call failed.
+    Unknown,
     /// The file is Dirty: it holds no entry, and its content may be any bytes.
     Dirty,
 }

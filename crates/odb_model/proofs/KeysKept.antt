@@ -22,12 +22,12 @@ use Rattle.odb_model.specs.declared.statement.Statement.{Statement}
 use Rattle.odb_model.specs.declared.statement.Statement.TheVariants.{Select, Insert, Update, Delete}
 use Rattle.odb_model.specs.declared.table_key.TableKey.{TableKey}
 use Rattle.odb_model.specs.State.{State, table_key_cmp, table_key_of, changed, after_writes, replay, replay_from, rows_of}
-use Rattle.odb_model.specs.Table.{Table, IsTable, value_at, key_of, row_of}
+use Rattle.odb_model.specs.Table.{Table, IsTable, value_at, key_of}
 use Rattle.odb_model.specs.Dictionary.{table_of}
 use Rattle.odb_model.specs.Binding.{first_refusal, binding_refusal}
 use Rattle.odb_model.specs.Fitting.{lacks_value, has_long_text, widest_key, row_refusal}
 use Rattle.odb_model.specs.Truth.{matches}
-use Rattle.odb_model.specs.Meaning.{meaning, refused, refused_or, done, different, most_writes, executed, on_table, values_of, kept_rows, put_of, writes_of, with_write, duplicate_refusal, tuples_refusal, new_values, new_row_refusal, new_row_writes, update_refusal, update_writes, delete_writes}
+use Rattle.odb_model.specs.Meaning.{meaning, refused, refused_or, done, different, most_writes, executed, on_table, values_of, kept_rows, put_of, writes_of, with_write, duplicate_refusal, tuples_refusal, new_values, new_row_writes, update_refusal, update_writes, delete_writes}
 use Rattle.odb_model.specs.Storable.{HaveKeys, HasKeys}
 use Rattle.odb_model.proofs.Replay.{table_key_cmp_total, table_key_cmp_exact}
 use Rattle.odb_model.proofs.Parts.{entries-retain_keys}

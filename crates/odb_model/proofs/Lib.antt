@@ -5,9 +5,9 @@ pub mod Covering
 pub mod Keyed
 pub mod Agree
 pub mod Own
+pub mod Longer
 pub mod Meant
 pub mod Refusals
-pub mod Runs
 pub mod Cut
 pub mod Fronts
 pub mod Keys

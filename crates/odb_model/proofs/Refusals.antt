@@ -1,5 +1,5 @@
 -- The replies that refuse a definition.
-use Rattle.std.proofs.Common.{◌≡◌, ℕ, Bool, true, false, ◌||◌, ◌==◌, nat_lt, not, cond, List, length, codes, refl, sym, subst, Option, Some, None, is_some}
+use Rattle.std.proofs.Common.{◌≡◌, ℕ, Bool, true, false, ◌||◌, ◌==◌, nat_lt, not, cond, List, length, codes, refl, subst, Option, Some, None, is_some}
 use Rattle.std.specs.Option.{option_or}
 use Rattle.std.specs.List.{list_any, list_all}
 use Rattle.odb_model.specs.declared.write.Write.{Write}
@@ -13,7 +13,7 @@ use Rattle.odb_model.specs.Table.{Table, is_named}
 use Rattle.odb_model.specs.Dictionary.{names_differ, table_of}
 use Rattle.odb_model.specs.Binding.{refuse_if}
 use Rattle.odb_model.specs.Databanks.{Databank, sysdb, databank_named, next_number}
-use Rattle.odb_model.specs.Definitions.{Planned, Refused, Plans, numbers_end, text_names, is_among, is_out_of_range, creation_refusal, plan_unless, creation_writes, created_in, has_row, drop_refusal, dropped, dictionary_write, planned}
+use Rattle.odb_model.specs.Definitions.{Planned, Refused, Plans, numbers_end, text_names, is_among, is_out_of_range, creation_refusal, plan_unless, creation_writes, created_in, has_row, drop_refusal, dropped, planned}
 
 unfoldable pub is_refusal : Reply → Bool
 is_refusal NotYet = true

@@ -1,40 +1,33 @@
 -- What a transaction writes can always be stored.
-use Rattle.std.proofs.Common.{◌≡◌, ℕ, ◌+◌, ◌≤◌, ℤ, Bool, true, false, ◌&&◌, ◌==◌, not, cond, nat_lt, nat_le, List, [], ◌∷◌, ◌++◌, map, length, codes, refl, sym, ap, subst, ◌∙◌, Option, Some, None, arith, lit≤, IsTrue, if◌then◌else◌, append-nil}
-use Rattle.std.specs.Option.{option_or, option_and_then}
-use Rattle.std.specs.List.{All, filter, flat_map}
+use Rattle.std.proofs.Common.{◌≡◌, ℕ, ◌≤◌, Bool, true, false, cond, nat_lt, nat_le, List, [], ◌∷◌, ◌++◌, map, length, refl, sym, ap, subst, Option, Some, None, arith, lit≤, append-nil}
+use Rattle.std.specs.Option.{option_or}
+use Rattle.std.specs.List.{All, flat_map}
 use Rattle.std.specs.List.Sorted.{IsStrictlySortedBy}
-use Rattle.std.specs.declared.cmp.Ordering.TheVariants.{Less, Equal, Greater}
-use Rattle.std.specs.Ordering.{eq_by_cmp}
-use Rattle.std.specs.FinMap.{empty, get, remove, entries, entries-insert, entries_sorted, retain_keys, get-remove, get-retain_keys, same_map}
-use Rattle.std.specs.FinMap.Entries.{put, by_order}
+use Rattle.std.specs.FinMap.{entries, entries_sorted, retain_keys}
 use Rattle.std.proofs.lemmas.Bool.Decides.{nat_tests}
 use Rattle.std.proofs.lemmas.List.{map-append, length-map}
 use Rattle.std.proofs.lemmas.List.Elements.{All-nil, All-cons, All-head, All-tail, All-append, All-filter, All-map, All-weaker}
 use Rattle.odb_values.specs.declared.value.Value.{Value}
-use Rattle.odb_values.specs.declared.value.Value.TheVariants.{Int}
 use Rattle.odb_values.specs.Key.{width_of_all}
 use Rattle.odb_model.specs.declared.write.Write.{Write}
-use Rattle.odb_model.specs.declared.entry.Entry.{Entry}
 use Rattle.odb_model.specs.declared.reply.Reply.{Reply}
 use Rattle.odb_model.specs.declared.reply.Reply.TheVariants.{NullNotAllowed, TooLong, KeyTooWide, RowTooWide, TooManyWrites, Done}
 use Rattle.odb_model.specs.declared.statement.Assignment.{Assignment}
 use Rattle.odb_model.specs.declared.statement.Statement.{Statement}
 use Rattle.odb_model.specs.declared.statement.Statement.TheVariants.{Select, Insert, Update, Delete}
 use Rattle.odb_model.specs.declared.table_key.TableKey.{TableKey}
-use Rattle.odb_model.specs.State.{State, table_key_cmp, table_key_of, changed, after_writes, replay, replay_from, rows_of}
-use Rattle.odb_model.specs.Table.{Table, kv, is_named, key_of, row_of}
-use Rattle.odb_model.specs.Dictionary.{table_of, table_in_row, in_dictionary, has_name_form}
+use Rattle.odb_model.specs.State.{State, table_key_cmp, table_key_of}
+use Rattle.odb_model.specs.Table.{Table, key_of, row_of}
+use Rattle.odb_model.specs.Dictionary.{table_of}
 use Rattle.odb_model.specs.Binding.{first_refusal, binding_refusal}
-use Rattle.odb_model.specs.Width.{row_fits, width_of_change}
+use Rattle.odb_model.specs.Width.{row_fits}
 use Rattle.odb_model.specs.Fitting.{lacks_value, has_long_text, widest_key, row_refusal}
 use Rattle.odb_model.specs.Truth.{matches}
 use Rattle.odb_model.specs.Meaning.{meaning, refused, refused_or, done, different, most_writes, executed, on_table, values_of, kept_rows, write_at, place_of, put_of, writes_of, with_write, duplicate_refusal, tuples_refusal, new_values, new_row_refusal, update_refusal, new_row_writes, update_writes, delete_writes}
 use Rattle.odb_model.specs.Transaction.{table_keys, last_writes, is_there, net}
 use Rattle.odb_model.specs.Storable.{IsNarrow, AreStorable, IsStorableList, HasKeys}
-use Rattle.odb_model.proofs.Replay.{table_key_cmp_total, table_key_cmp_exact}
 use Rattle.odb_model.proofs.Parts.{entries-retain_keys}
 use Rattle.odb_model.proofs.Keys.{entries-empty, length-last_writes, IsAtItsKey, All-last_writes, table_keys_of_entries, keys_ascend, length-filter-le}
-use Rattle.odb_model.proofs.Covering.{and_true}
 use Rattle.odb_model.proofs.Agree.{none_refused}
 use Rattle.odb_model.proofs.KeysKept.{or_none, IsKeyedRow, kept_keyed}
 

@@ -13,7 +13,6 @@ use Rattle.odb_model.specs.declared.phase.StateReply.{StateReply}
 use Rattle.odb_model.specs.Print.{head_text, line_of, row_line, two_numbers, phase_text, log_words, copy_words, sides_words, state_text, reply_text}
 use Rattle.odb_model.specs.Script.{open_line}
 use Rattle.odb_model.specs.Acknowledged.{Acknowledges}
-use Rattle.odb_model.specs.Play.{Answer, text_of_answer, said_by}
 use Rattle.odb_model.proofs.Replay.{or_false}
 use Rattle.odb_model.proofs.Cut.{HasNoLf, cut, ended-append, ended-front, ended-one, open_line-ended, open_line-append}
 use Rattle.odb_model.proofs.Decimal.{IsUnspaced, decimal-unspaced, unspaced-no_lf}
@@ -171,9 +170,3 @@ reply-ended head (Phase file name) = line-ended head (codes "REFUSED PHASE " ++ 
 reply-ended head (NoFile file) = line-ended head (codes "REFUSED NOFILE " ++ decimal file)
 reply-ended head (Limit file) = line-ended head (codes "REFUSED LIMIT " ++ decimal file)
 reply-ended head Memory = line-ended head (codes "REFUSED MEMORY")
-
--- and so do the texts of replies, one behind another
-pub said-ended : (answers : List Answer) → open_line (said_by answers) ≡ []
-said-ended [] = refl
-said-ended (answer ∷ answers) =
-    open_line-append (text_of_answer answer) (said_by answers) (reply-ended answer.head answer.reply) ∙ said-ended answers

@@ -1,7 +1,7 @@
 -- Which databanks the dictionary of a state tells of, and which number it gives next. The row of a
 -- databank stands in table 6 at the key (1, the databank's name), and that of the next number at
 -- (5, NEXT). SYSDB, MAIN and a shadow of SYSDB are fixed. The forms are this project's own.
-use Rattle.std.specs.Prelude.{ℕ, pos, Bool, ◌&&◌, ◌||◌, ◌==◌, nat_lt, not, List, [], ◌∷◌, ◌++◌, length, codes, find, Option, Some, None, option_map, option_and_then, unwrap_or, if◌then◌else◌}
+use Rattle.std.specs.Prelude.{ℕ, pos, Bool, ◌&&◌, ◌||◌, ◌==◌, nat_lt, not, List, [], ◌∷◌, ◌++◌, length, codes, find, Option, Some, None, option_and_then, unwrap_or, if◌then◌else◌}
 use Rattle.std.specs.List.{list_any, filter_map}
 use Rattle.std.specs.FinMap.{get, entries}
 use Rattle.odb_values.specs.declared.value.Value.{Value}

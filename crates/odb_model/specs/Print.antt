@@ -72,6 +72,10 @@ copy_words c =
     codes "FILE " ++ decimal c.file ++ codes " BANK " ++ decimal c.bank
     ++ codes " MARK " ++ mark_text c.mark ++ codes " " ++ phase_text c.phase
 
+-- a line for each copy
+abbrev pub copies_lines : Head → List CopyLine → List ℕ
+copies_lines head copies = flat_map (λ c. line_of head (copy_words c)) copies
+
 -- of TRANSDB: the active side, the state of the other one, and the number of the first entry held
 abbrev pub sides_words : StateReply → List ℕ
 sides_words s =
@@ -82,7 +86,7 @@ sides_words s =
 abbrev pub state_text : Head → StateReply → List ℕ
 state_text head s =
     line_of head (codes "NUMBER " ++ decimal s.number) ++ line_of head (sides_words s)
-    ++ line_of head (log_words s.log) ++ flat_map (λ c. line_of head (copy_words c)) s.copies
+    ++ line_of head (log_words s.log) ++ copies_lines head s.copies
 
 -- the bytes that answer a line
 abbrev pub reply_text : Head → Reply → List ℕ

@@ -2,10 +2,9 @@
 use Rattle.std.specs.Prelude.{◌≡◌, ◌≢◌, ℕ, ◌≤◌, List, [], ◌∷◌, length, take, slice_get, IsSomeAnd}
 use Rattle.odb_model.specs.declared.write.Write.{Write}
 use Rattle.odb_model.specs.declared.entry.Entry.{Entry}
-use Rattle.odb_model.specs.State.{replay, IsHistory}
+use Rattle.odb_model.specs.State.{replay}
 use Rattle.odb_model.specs.Transaction.{Executed, statements_of, replies_of, open_reply, write_set_with, SerialRun, alone}
 use Rattle.odb_model.specs.Session.{Session, Idle, Working}
-use Rattle.odb_model.specs.Machine.{Machine}
 
 -- what the transaction's statements do, run alone after the first p entries
 abbrev pub alone_at : List Executed → ℕ → List Entry → ℕ → SerialRun
@@ -30,9 +29,3 @@ HasOpenReplies h write_set (a ∷ t) format =
 abbrev pub SessionAnsweredFromSnapshots : List Entry → Session → ℕ → Type 0
 SessionAnsweredFromSnapshots h Idle format = Unit {0}
 SessionAnsweredFromSnapshots h (Working t) format = HasOpenReplies h [] t format
-
--- The history is numbered, and each open transaction has got the replies that its statements get at
--- their snapshots. The first machine is so, and each step leaves one that is
-pub record AnsweredFromSnapshots (m : Machine) : Type 0 where
-  pub history : IsHistory m.history
-  pub sessions : (s : ℕ) → SessionAnsweredFromSnapshots m.history (m.sessions s) m.format

@@ -1,5 +1,5 @@
 -- Which writes can be stored as one entry.
-use Rattle.std.specs.Prelude.{◌≤◌, ◌+◌, List, length}
+use Rattle.std.specs.Prelude.{◌≤◌, List, length}
 use Rattle.std.specs.List.{All}
 use Rattle.std.specs.FinMap.{entries}
 use Rattle.odb_values.specs.Key.{IsKey}

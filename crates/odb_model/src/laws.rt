@@ -17,11 +17,8 @@ ghost use Rattle.odb_model.specs.Meaning.{meaning, values_of};
 ghost use Rattle.odb_model.specs.Reads.{reads, IsLawful};
 ghost use Rattle.odb_model.specs.Transaction.{Executed, statements_of, replies_of, table_keys, write_set_of, net, alone, conflict};
 ghost use Rattle.odb_model.specs.Intentions.{intentions_of, intended};
-ghost use Rattle.odb_model.specs.Sides.{Sides};
-ghost use Rattle.odb_model.specs.Machine.{Machine, first_machine};
 ghost use Rattle.odb_model.specs.Storable.{AreStorable, IsStorableList, HaveKeys, HasKeys};
-ghost use Rattle.odb_model.specs.Serial.{HasOpenReplies, AnsweredFromSnapshots};
-ghost use Rattle.odb_model.specs.Play.{Answer, IsRun, AllSerial};
+ghost use Rattle.odb_model.specs.Serial.{HasOpenReplies};
 
 /// Two lawful states that agree on every key of the ranges that a statement reads give it the same
 /// meaning, and it reads the same ranges on both.
@@ -39,16 +36,6 @@ pub fn answers_alone()
     ensures { (h : List Entry) (t : List Executed) (format : ℕ)
         → IsHistory h → HasOpenReplies h [] t format → conflict h t format ≡ None
         → (alone (statements_of t) (replay h) format).replies ≡ replies_of t }
-{}
-
-/// Whatever lines are answered from a machine on whose open transactions have got their replies,
-/// each transaction that is committed is serial at its place. The first machine of a history is
-/// such a machine.
-pub fn runs_serially()
-    ensures first { (format : ℕ) (sides : Sides) (h : List Entry)
-        → IsHistory h → AnsweredFromSnapshots (first_machine format sides h) }
-    ensures serial { (m : Machine) (lines : List (List ℕ)) (answers : List Answer)
-        → AnsweredFromSnapshots m → IsRun m lines answers → AllSerial m answers }
 {}
 
 /// Where nothing conflicts with a transaction, its intentions leave what its writes leave on the

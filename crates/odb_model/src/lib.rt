@@ -1,8 +1,8 @@
 //! The definitions that the whole server is proved against, and the types that they speak of.
 //!
 //! The definitions stand in `specs/`: states and histories, what a statement means and which ranges
-//! it reads, the machine with its steps, the lines of a script and the texts of replies, and when a
-//! transaction is serial. The laws about them are the contracts of the functions in `laws`.
+//! it reads, the lines of a script and the texts of replies, and when a transaction is serial. The
+//! laws about them are the contracts of the functions in `laws`.
 #![tactic(auto)]
 
 mod control;
@@ -31,8 +31,7 @@ pub use event::Event;
 pub use intention::Intention;
 pub use keyword::Keyword;
 pub use laws::{
-    agrees_on_reads, answers_alone, covers_matches, intends_net, runs_serially, stays_storable,
-    tells_tables,
+    agrees_on_reads, answers_alone, covers_matches, intends_net, stays_storable, tells_tables,
 };
 pub use numbers::{LF, SESSIONS};
 pub use outcome::{Outcome, Ranges, Read};

@@ -6,7 +6,7 @@ use Rattle.std.proofs.lemmas.Bool.{cases_eq, and_from, and_parts}
 use Rattle.odb_extent.specs.Opened.{Opened as Extents, no_open_place, malformed, holding, opened as extents_in, content_end}
 use Rattle.odb_slots.specs.Slots.{OPEN, gate_at}
 use Rattle.odb_slots.specs.Views.{spelled, view_by}
-use Rattle.odb_model.specs.Readings.{Reading, Damaged, Holds, FileReading, Asked}
+use Rattle.odb_machine.specs.Readings.{Reading, Damaged, Holds, FileReading, Asked}
 use Rattle.odb_bank.specs.declared.fields.BankFields.{BankFields}
 use Rattle.odb_bank.specs.Fields.{fields_in, bank_image}
 use Rattle.odb_bank.specs.Spelled.{record_of_slot}

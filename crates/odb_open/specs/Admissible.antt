@@ -4,9 +4,9 @@ use Rattle.odb_model.specs.declared.entry.Entry.{Entry}
 use Rattle.odb_model.specs.State.{State, replay}
 use Rattle.odb_model.specs.Databanks.{Databank, databanks}
 use Rattle.odb_model.specs.Shadows.{New, NamedCopy, copies_of}
-use Rattle.odb_model.specs.Copies.{Choice}
-use Rattle.odb_model.specs.Readings.{Holds, TransdbReading, last_number}
-use Rattle.odb_model.specs.Joined.{entries_held, held_by, file_for}
+use Rattle.odb_machine.specs.Copies.{Choice}
+use Rattle.odb_machine.specs.Readings.{Holds, TransdbReading, last_number}
+use Rattle.odb_machine.specs.Joined.{entries_held, held_by, file_for}
 use Rattle.odb_bank.specs.History.{history_of}
 use Rattle.odb_bank.specs.Files.{StandsAt}
 use Rattle.odb_open.specs.Files.{transdb_in, log_read}

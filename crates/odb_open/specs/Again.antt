@@ -6,10 +6,10 @@ use Rattle.odb_device.specs.Calls.{FileCountRose}
 use Rattle.odb_model.specs.declared.control.Control.TheVariants.{Reopen}
 use Rattle.odb_model.specs.declared.reply.Reply.{Reply}
 use Rattle.odb_model.specs.declared.reply.Reply.TheVariants.{Opened}
-use Rattle.odb_model.specs.MachineState.{Machine}
-use Rattle.odb_model.specs.Determined.{LineReads}
-use Rattle.odb_model.specs.Again.{found_again, takes_all}
-use Rattle.odb_model.specs.Play.{Answer}
+use Rattle.odb_machine.specs.MachineState.{Machine}
+use Rattle.odb_machine.specs.Determined.{LineReads}
+use Rattle.odb_machine.specs.Again.{found_again, takes_all}
+use Rattle.odb_machine.specs.Play.{Answer}
 
 -- no file's count of faults rose from one world to the other
 abbrev pub NoCountRose : World → World → Type 0

@@ -5,13 +5,13 @@ use Rattle.odb_device.specs.World.{Moment}
 use Rattle.odb_device.specs.Moments.{AreImages}
 use Rattle.odb_model.specs.declared.entry.Entry.{Entry}
 use Rattle.odb_model.specs.State.{replay}
-use Rattle.odb_model.specs.Sides.{first_in}
+use Rattle.odb_machine.specs.Sides.{first_in}
 use Rattle.odb_model.specs.Databanks.{Databank, databanks}
-use Rattle.odb_model.specs.Copies.{Choice}
-use Rattle.odb_model.specs.Readings.{Holds, TransdbReading, last_number}
-use Rattle.odb_model.specs.MachineState.{Machine, history_or_more}
-use Rattle.odb_model.specs.Joined.{file_for}
-use Rattle.odb_model.specs.Named.{HasSoundCopies}
+use Rattle.odb_machine.specs.Copies.{Choice}
+use Rattle.odb_machine.specs.Readings.{Holds, TransdbReading, last_number}
+use Rattle.odb_machine.specs.MachineState.{Machine, history_or_more}
+use Rattle.odb_machine.specs.Joined.{file_for}
+use Rattle.odb_machine.specs.Named.{HasSoundCopies}
 use Rattle.odb_sound.specs.Sound.{IsSound}
 use Rattle.odb_bank.specs.History.{history_of}
 use Rattle.odb_bank.specs.Files.{StandsAt}

@@ -6,9 +6,9 @@ use Rattle.odb_model.specs.declared.entry.Entry.{Entry}
 use Rattle.odb_model.specs.State.{State, changed}
 use Rattle.odb_model.specs.Ordered.{with_item}
 use Rattle.odb_model.specs.Width.{records_width}
-use Rattle.odb_model.specs.Log.{has_log}
-use Rattle.odb_model.specs.Versions.{Version, Records, no_records, versions_at}
-use Rattle.odb_model.specs.Readings.{Reading, Missing, Damaged, Holds, TransdbReading, LogReading, FileReading, Asked}
+use Rattle.odb_machine.specs.Log.{has_log}
+use Rattle.odb_machine.specs.Versions.{Version, Records, no_records, versions_at}
+use Rattle.odb_machine.specs.Readings.{Reading, Missing, Damaged, Holds, TransdbReading, LogReading, FileReading, Asked}
 use Rattle.odb_extent.specs.Opened.{Opened as Extents, no_open_place, malformed, holding as holding_extents, opened as extents_in, content_end}
 use Rattle.odb_slots.specs.Slots.{OPEN, slot_place, gate_at}
 use Rattle.odb_slots.specs.Views.{spelled, view_by}

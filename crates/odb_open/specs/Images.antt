@@ -1,9 +1,9 @@
 -- What the bytes of all files read as.
 use Rattle.std.specs.Prelude.{ℕ, List, option_map}
 use Rattle.odb_device.specs.World.{Moment}
-use Rattle.odb_model.specs.Readings.{Holds, TransdbReading, Readings}
-use Rattle.odb_model.specs.Opened.{FilesRead}
-use Rattle.odb_model.specs.First.{asked_of}
+use Rattle.odb_machine.specs.Readings.{Holds, TransdbReading, Readings}
+use Rattle.odb_machine.specs.Opened.{FilesRead}
+use Rattle.odb_machine.specs.First.{asked_of}
 use Rattle.odb_open.specs.Files.{transdb_in, log_in, log_read, file_in}
 
 -- the bytes of each file

@@ -2,12 +2,12 @@
 use Rattle.std.specs.Prelude.{◌≡◌, ◌⊎◌, ℕ, ◌-◌, ◌≤◌, Bool, true, false, List, length, drop, take, Contains, IsSome}
 use Rattle.odb_device.specs.World.{Moment}
 use Rattle.odb_model.specs.declared.entry.Entry.{Entry}
-use Rattle.odb_model.specs.Sides.{first_in}
-use Rattle.odb_model.specs.Log.{Log, Held, Span}
-use Rattle.odb_model.specs.Copies.{Copy}
-use Rattle.odb_model.specs.Readings.{Holds, TransdbReading, LogReading, last_number}
-use Rattle.odb_model.specs.MachineState.{Machine, IsSettled, copies_asked}
-use Rattle.odb_model.specs.Covered.{is_asked, IsCovering}
+use Rattle.odb_machine.specs.Sides.{first_in}
+use Rattle.odb_machine.specs.Log.{Log, Held, Span}
+use Rattle.odb_machine.specs.Copies.{Copy}
+use Rattle.odb_machine.specs.Readings.{Holds, TransdbReading, LogReading, last_number}
+use Rattle.odb_machine.specs.MachineState.{Machine, IsSettled, copies_asked}
+use Rattle.odb_machine.specs.Covered.{is_asked, IsCovering}
 use Rattle.odb_bank.specs.History.{history_of}
 use Rattle.odb_bank.specs.Files.{StandsAt}
 use Rattle.odb_open.specs.Files.{transdb_in, log_in}

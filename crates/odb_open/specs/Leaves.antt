@@ -6,15 +6,15 @@ use Rattle.odb_device.specs.Moments.{EachMoment, EachCrashSince}
 use Rattle.odb_kept.specs.Running.{machine_next, Begins}
 use Rattle.odb_model.specs.declared.entry.Entry.{Entry}
 use Rattle.odb_model.specs.State.{replay}
-use Rattle.odb_model.specs.Copies.{Copy, Choice}
-use Rattle.odb_model.specs.Readings.{Holds, TransdbReading, last_number}
-use Rattle.odb_model.specs.MachineState.{Machine, history_or_more}
-use Rattle.odb_model.specs.Opened.{Opened}
-use Rattle.odb_model.specs.Covered.{is_asked}
+use Rattle.odb_machine.specs.Copies.{Copy, Choice}
+use Rattle.odb_machine.specs.Readings.{Holds, TransdbReading, last_number}
+use Rattle.odb_machine.specs.MachineState.{Machine, history_or_more}
+use Rattle.odb_machine.specs.Opened.{Opened}
+use Rattle.odb_machine.specs.Covered.{is_asked}
 use Rattle.odb_model.specs.Script.{front_of, parts_of}
 use Rattle.odb_model.specs.Acknowledged.{Acknowledges}
-use Rattle.odb_model.specs.Play.{Answer, machine_after, text_of_answer, said_by}
-use Rattle.odb_model.specs.Masters.{has_trusted_masters, with_choice, IsOpenable}
+use Rattle.odb_machine.specs.Play.{Answer, machine_after, text_of_answer, said_by}
+use Rattle.odb_machine.specs.Masters.{has_trusted_masters, with_choice, IsOpenable}
 use Rattle.odb_open.specs.Files.{transdb_in}
 use Rattle.odb_open.specs.Images.{Image}
 use Rattle.odb_open.specs.Opened.{OpensTo}

@@ -1,8 +1,8 @@
 -- What an image of all files opens to.
 use Rattle.std.specs.Prelude.{◌≡◌, List, Option, Some, None}
-use Rattle.odb_model.specs.Copies.{Choice}
-use Rattle.odb_model.specs.Readings.{Reading, Holds, TransdbReading}
-use Rattle.odb_model.specs.Opened.{Opened, opened}
+use Rattle.odb_machine.specs.Copies.{Choice}
+use Rattle.odb_machine.specs.Readings.{Reading, Holds, TransdbReading}
+use Rattle.odb_machine.specs.Opened.{Opened, opened}
 use Rattle.odb_open.specs.Files.{transdb_in}
 use Rattle.odb_open.specs.Images.{Image, files_in}
 

@@ -7,11 +7,11 @@ use Rattle.odb_device.specs.Steps.{Steps, IsQuiet}
 use Rattle.odb_device.specs.Moments.{EachMoment, EachCrashSince}
 use Rattle.odb_model.specs.declared.status.Status.{Status}
 use Rattle.odb_model.specs.declared.status.Status.TheVariants.{Done, Usage, ReadFault, WriteFault, FileFault, NoDatabase, Exists, Damaged, NotHeld, InputTooLong, NoMemory, NotACopy, Unfinished}
-use Rattle.odb_model.specs.Copies.{Choice}
-use Rattle.odb_model.specs.Book.{Seen}
-use Rattle.odb_model.specs.MachineState.{Machine}
-use Rattle.odb_model.specs.Opening.{Finds, opening_refusal}
-use Rattle.odb_model.specs.First.{IsMet}
+use Rattle.odb_machine.specs.Copies.{Choice}
+use Rattle.odb_machine.specs.Book.{Seen}
+use Rattle.odb_machine.specs.MachineState.{Machine}
+use Rattle.odb_machine.specs.Opening.{Finds, opening_refusal}
+use Rattle.odb_machine.specs.First.{IsMet}
 use Rattle.odb_open.specs.Images.{readings_at}
 use Rattle.odb_open.specs.Kept.{Keeps}
 

@@ -4,8 +4,8 @@ use Rattle.std.specs.Prelude.{◌≡◌, ℕ, is_some}
 use Rattle.odb_device.specs.World.{World, present, file_of}
 use Rattle.odb_model.specs.declared.reply.Reply.{Reply}
 use Rattle.odb_model.specs.declared.reply.Reply.TheVariants.{Opened}
-use Rattle.odb_model.specs.Book.{Seen, is_told}
-use Rattle.odb_model.specs.Play.{Answer}
+use Rattle.odb_machine.specs.Book.{Seen, is_told}
+use Rattle.odb_machine.specs.Play.{Answer}
 use Rattle.odb_open.specs.Images.{readings_at}
 
 -- a step has seen just the files that the store tells

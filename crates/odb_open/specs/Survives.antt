@@ -14,12 +14,12 @@ use Rattle.odb_model.specs.declared.status.Status.{Status}
 use Rattle.odb_model.specs.declared.status.Status.TheVariants.{FileFault}
 use Rattle.odb_model.specs.declared.control.Control.TheVariants.{Reopen}
 use Rattle.odb_model.specs.Control.{control_text}
-use Rattle.odb_model.specs.Copies.{Choice}
-use Rattle.odb_model.specs.Book.{Seen}
-use Rattle.odb_model.specs.MachineState.{Machine, IsSettled}
-use Rattle.odb_model.specs.First.{IsFirstMachine, IsRefusedOpening}
-use Rattle.odb_model.specs.Play.{Answer, Plays, machine_after, said_by, faults_told, lines_so_far}
-use Rattle.odb_model.specs.Masters.{has_honest_masters, are_trusted_steps}
+use Rattle.odb_machine.specs.Copies.{Choice}
+use Rattle.odb_machine.specs.Book.{Seen}
+use Rattle.odb_machine.specs.MachineState.{Machine, IsSettled}
+use Rattle.odb_machine.specs.First.{IsFirstMachine, IsRefusedOpening}
+use Rattle.odb_machine.specs.Play.{Answer, Plays, machine_after, said_by, faults_told, lines_so_far}
+use Rattle.odb_machine.specs.Masters.{has_honest_masters, are_trusted_steps}
 use Rattle.odb_open.specs.Images.{readings_at}
 use Rattle.odb_open.specs.Trusted.{AreTrusted}
 use Rattle.odb_open.specs.Leaves.{SurvivesCrashes}

@@ -5,7 +5,7 @@ use Rattle.odb_device.specs.Images.{EachImage}
 use Rattle.odb_model.specs.declared.entry.Entry.{Entry}
 use Rattle.odb_model.specs.State.{replay}
 use Rattle.odb_model.specs.Shadows.{NamedCopy, copies_of}
-use Rattle.odb_model.specs.Readings.{Holds, LogReading}
+use Rattle.odb_machine.specs.Readings.{Holds, LogReading}
 use Rattle.odb_bank.specs.History.{history_of}
 use Rattle.odb_bank.specs.Files.{StandsAtMark}
 use Rattle.odb_open.specs.Files.{log_in}

@@ -2,7 +2,7 @@
 ghost use Rattle.std.specs.Prelude.{◌≡◌, ℕ, ◌*◌, ◌^◌, ◌<◌, ◌≤◌, List};
 ghost use Rattle.std.specs.FinMap.{get};
 ghost use Rattle.odb_model.specs.declared.table_key.TableKey.{TableKey};
-ghost use Rattle.odb_model.specs.Readings.{Damaged, Holds, FileReading, Asked};
+ghost use Rattle.odb_machine.specs.Readings.{Damaged, Holds, FileReading, Asked};
 ghost use Rattle.odb_slots.specs.Views.{view_by};
 ghost use Rattle.odb_bank.specs.Files.{StandsAt};
 ghost use Rattle.odb_bank.specs.History.{History};

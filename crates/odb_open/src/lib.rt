@@ -2,7 +2,7 @@
 //! database may be opened, and what a crash leaves of a machine.
 //!
 //! Definitions and a law stand here: the opening itself is to be written. The machine, below, knows the
-//! files only as they read (`odb_model/specs/Readings.antt`); this crate says of which bytes they
+//! files only as they read (`odb_machine/specs/Readings.antt`); this crate says of which bytes they
 //! read so.
 #![tactic(auto)]
 

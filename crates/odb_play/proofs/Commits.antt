@@ -17,15 +17,16 @@ use Rattle.odb_model.specs.declared.reply.Head.{Head}
 use Rattle.odb_model.specs.declared.reply.Head.TheVariants.{Session, Control, Unknown}
 use Rattle.odb_model.specs.declared.reply.Reply.{Reply}
 use Rattle.odb_model.specs.declared.reply.Reply.TheVariants.{Committed}
-use Rattle.odb_model.specs.Machine.{Machine, history_or_more}
+use Rattle.odb_machine.specs.Machine.{Machine, history_or_more}
 use Rattle.odb_model.specs.Print.{head_text, reply_text}
 use Rattle.odb_model.specs.Script.{without_cr}
-use Rattle.odb_model.specs.Play.{Answer, IsAnswer, IsRun, text_of_answer, said_by, machine_after}
+use Rattle.odb_machine.specs.Play.{Answer, IsAnswer, IsRun, text_of_answer, said_by, machine_after}
 use Rattle.odb_model.specs.Acknowledged.{Acknowledges}
 use Rattle.odb_model.proofs.Replay.{or_false}
 use Rattle.odb_model.proofs.Cut.{HasNoLf, cut, ended_lines-more}
 use Rattle.odb_model.proofs.Decimal.{no_lf-decimal}
-use Rattle.odb_model.proofs.Told.{Acknowledges-append, Acknowledges-nothing, reply-ended, said-ended, no_lf-append}
+use Rattle.odb_model.proofs.Told.{Acknowledges-append, Acknowledges-nothing, reply-ended, no_lf-append}
+use Rattle.odb_machine.proofs.Said.{said-ended}
 use Rattle.odb_reply.specs.Telling.{TellsAlone}
 use Rattle.odb_system.specs.Kept.{OpensBy, IsKept}
 use Rattle.odb_play.specs.Crash.{OpensTo, HoldsCommits}

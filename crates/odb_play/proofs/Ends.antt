@@ -7,9 +7,9 @@ use Rattle.std.proofs.lemmas.Bool.{cases_lt}
 use Rattle.odb_device.specs.World.{World, present}
 use Rattle.odb_device.specs.Console.{Says}
 use Rattle.odb_device.proofs.Talking.{says_both}
-use Rattle.odb_model.specs.Machine.{Machine}
+use Rattle.odb_machine.specs.Machine.{Machine}
 use Rattle.odb_model.specs.Script.{ended_lines, open_line, last_line, all_lines}
-use Rattle.odb_model.specs.Play.{Answer, IsAnswer, IsRun, machine_after, said_by}
+use Rattle.odb_machine.specs.Play.{Answer, IsAnswer, IsRun, machine_after, said_by}
 use Rattle.odb_system.specs.Kept.{Rests}
 use Rattle.odb_play.specs.Part.{IsPart, IsWhole}
 use Rattle.odb_play.proofs.Parts.{said_by-append, machine_after-append, whole_part, whole_then, part_of_whole, whole_none}

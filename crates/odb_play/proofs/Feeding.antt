@@ -5,8 +5,8 @@ use Rattle.std.proofs.lemmas.List.{take_all, length-drop}
 use Rattle.odb_device.specs.World.{World, file_of}
 use Rattle.odb_device.specs.Console.{TakesNothing}
 use Rattle.odb_device.proofs.Talking.{talks_none}
-use Rattle.odb_model.specs.Machine.{Machine}
-use Rattle.odb_model.specs.Play.{Answer}
+use Rattle.odb_machine.specs.Machine.{Machine}
+use Rattle.odb_machine.specs.Play.{Answer}
 use Rattle.odb_system.specs.Held.{Held}
 use Rattle.odb_system.specs.Durable.{IsDurable}
 use Rattle.odb_play.specs.declared.player.TheConstants.{FRONT}

@@ -6,9 +6,9 @@ use Rattle.std.proofs.Math.Seq.{take-length}
 use Rattle.odb_device.specs.World.{World, present}
 use Rattle.odb_device.specs.Console.{Says, SaysNothing}
 use Rattle.odb_device.proofs.Talking.{adds_none}
-use Rattle.odb_model.specs.Machine.{Machine}
+use Rattle.odb_machine.specs.Machine.{Machine}
 use Rattle.odb_model.specs.Script.{ended_lines, open_line, without_cr}
-use Rattle.odb_model.specs.Play.{Answer, IsAnswer, IsRun, machine_after}
+use Rattle.odb_machine.specs.Play.{Answer, IsAnswer, IsRun, machine_after}
 use Rattle.odb_model.proofs.Cut.{ended_lines-more, open_line-more, ended_lines-ended, open_line-ended}
 use Rattle.odb_model.proofs.Fronts.{IsFrontOf, kept-more, front-ended}
 use Rattle.odb_system.specs.Held.{Held, StandsFor}

@@ -11,8 +11,8 @@ use Rattle.odb_device.specs.Moments.{Runs}
 use Rattle.odb_device.specs.Steps.{Steps, Files, IsAsIn, OnlyThis, IsQuiet}
 use Rattle.odb_device.proofs.Stretches.{steps_none, steps_then, steps_weaken, steps_end, steps_count, steps_of_run, steps_of_talks}
 use Rattle.odb_device.proofs.Talking.{adds_none, says_both}
-use Rattle.odb_model.specs.Machine.{Machine}
-use Rattle.odb_model.specs.Play.{Answer, RiseOnly, tells_fault, faults_told, machine_after, text_of_answer}
+use Rattle.odb_machine.specs.Machine.{Machine}
+use Rattle.odb_machine.specs.Play.{Answer, RiseOnly, tells_fault, faults_told, machine_after, text_of_answer}
 use Rattle.odb_system.specs.Durable.{Risen}
 use Rattle.odb_system.specs.Kept.{Rests}
 use Rattle.odb_play.specs.Outside.{IsStill, Passed, LeavesFiles, LeavesOthers, TouchesOnly, RoseBy}

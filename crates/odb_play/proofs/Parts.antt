@@ -18,9 +18,9 @@ use Rattle.odb_kept.proofs.Running.{answered, goes_on, goes_on_silently, run_non
 use Rattle.odb_model.specs.declared.reply.Head.{Head}
 use Rattle.odb_model.specs.declared.reply.Reply.{Reply}
 use Rattle.odb_model.specs.declared.reply.Reply.TheVariants.{Okay, Rows, Done, Committed, Ended, InDoubt, Bodies, Gates, Mark, Logged, Turned, Cleaned, Copying, Copied, LogFirst, Opened, State, Character, Text, Number, Syntax, End, Long, Line, NoSession, NotYet, NoTransaction, InTransaction, NoTable, NoBank, NameTaken, NotEmpty, NoCopyLeft, NoNumberLeft, NoShadow, NoBackup, Fixed, NoColumn, KindMismatch, KeyColumn, ColumnCount, Duplicate, NullNotAllowed, TooLong, KeyTooWide, RowTooWide, TooManyWrites, Overflow, Halted, Aged, Conflict, HistoryFull, Full, Fault, NotClean, Held, LogFull, Needed, NotHeld, Phase, NoFile, Limit, Memory}
-use Rattle.odb_model.specs.Machine.{Machine}
+use Rattle.odb_machine.specs.Machine.{Machine}
 use Rattle.odb_model.specs.Print.{head_text, line_of, row_line, two_numbers, phase_text, log_words, copy_words, sides_words, reply_text}
-use Rattle.odb_model.specs.Play.{Answer, text_of_answer, said_by, machine_after}
+use Rattle.odb_machine.specs.Play.{Answer, text_of_answer, said_by, machine_after}
 use Rattle.odb_reply.specs.Telling.{TellsAlone}
 use Rattle.odb_system.specs.Kept.{OpensBy, IsKept, Rests}
 use Rattle.odb_play.specs.Outside.{LeavesOthers, TouchesOnly}

@@ -9,11 +9,11 @@ use Rattle.odb_device.specs.Console.{Talks, Says, SaysNothing, Takes, TakesNothi
 use Rattle.odb_device.proofs.Talking.{adds_none, adds_then, says_both}
 use Rattle.odb_model.specs.declared.status.Status.{Status}
 use Rattle.odb_model.specs.declared.status.Status.TheVariants.{Done, ReadFault, WriteFault as BadOutput, InputTooLong, NoMemory as OutOfMemory}
-use Rattle.odb_model.specs.Machine.{Machine}
+use Rattle.odb_machine.specs.Machine.{Machine}
 use Rattle.odb_model.specs.Script.{ended_lines, all_lines}
-use Rattle.odb_model.specs.Serial.{AnsweredFromSnapshots}
-use Rattle.odb_model.specs.Play.{Answer, IsRun, machine_after, said_by, Plays, SaysAll, lines_so_far, most_input, PlayEnds}
-use Rattle.odb_model.proofs.Runs.{all_serial}
+use Rattle.odb_machine.specs.Answered.{AnsweredFromSnapshots}
+use Rattle.odb_machine.specs.Play.{Answer, IsRun, machine_after, said_by, Plays, SaysAll, lines_so_far, most_input, PlayEnds}
+use Rattle.odb_machine.proofs.Runs.{all_serial}
 use Rattle.odb_system.specs.Held.{Held, StandsFor}
 use Rattle.odb_system.specs.Kept.{Rests}
 use Rattle.odb_play.specs.declared.player.Stop.{Stop}

@@ -15,11 +15,11 @@ use Rattle.odb_kept.proofs.Running.{opened_then}
 use Rattle.odb_model.specs.declared.entry.Entry.{Entry}
 use Rattle.odb_model.specs.declared.status.Status.{Status}
 use Rattle.odb_model.specs.declared.status.Status.TheVariants.{Done, Usage, ReadFault, WriteFault, FileFault, NoDatabase, Exists, Damaged, NotHeld, InputTooLong, NoMemory, NotACopy, Unfinished}
-use Rattle.odb_model.specs.Machine.{Machine, first_machine, history_or_more}
+use Rattle.odb_machine.specs.Machine.{Machine, first_machine, history_or_more}
 use Rattle.odb_model.specs.Script.{ended_lines, all_lines}
 use Rattle.odb_model.specs.State.{IsNumberedFrom}
 use Rattle.odb_model.specs.Width.{records_width}
-use Rattle.odb_model.specs.Play.{Answer, IsRun, Plays, PlayEnds, lines_so_far, most_input, text_of_answer}
+use Rattle.odb_machine.specs.Play.{Answer, IsRun, Plays, PlayEnds, lines_so_far, most_input, text_of_answer}
 use Rattle.odb_transdb.specs.declared.header.Header.{Header}
 use Rattle.odb_transdb.specs.Header.{first_held, active_first}
 use Rattle.odb_pair.specs.Places.{gate}
@@ -31,8 +31,9 @@ use Rattle.odb_transdb.specs.declared.error.TransdbError.{TransdbError}
 use Rattle.odb_transdb.specs.declared.error.TransdbError.TheVariants.{NoDatabase as NoPair, Damaged as BadBytes, Full, FaultBefore, InDoubt, NotClean, Held as NotCovered, Fault, NoMemory as NoRoom}
 use Rattle.odb_commit.specs.Standing.{sides_of}
 use Rattle.odb_system.specs.Held.{Held, StandsFor, Begins}
-use Rattle.odb_system.specs.Durable.{IsDurableBy}
-use Rattle.odb_system.specs.Kept.{OpensBy, IsKept, Rests}
+use Rattle.odb_system.specs.Durable.{StandsBy, IsDurableBy}
+use Rattle.odb_system.specs.Kept.{MayHaveSides, OpensBy, IsKept, Rests}
+use Rattle.odb_transdb.proofs.Standing.{stands_settled}
 use Rattle.odb_system.proofs.Keeping.{rests_log}
 use Rattle.odb_play.specs.Outside.{RoseBy}
 use Rattle.odb_play.specs.Crash.{IsFound, KeepsAtEntry, SurvivesCrashes, LosesNoCommit}
@@ -126,8 +127,8 @@ told_log entry old keeps = elim (keeps.told 0) as (λ w. IsSome (file_of 0 old))
 
 found_by : (entry : Machine) (h : Header) (es : List Entry) (bytes : List ℕ) → opened bytes ≡ holding h es → IsKept entry 0 bytes → IsFound entry (first_machine h.format (sides_of h) es)
 found_by entry h es bytes read kept = elim (kept.log refl) as (λ w. IsFound entry (first_machine h.format (sides_of h) es)) [
-  | inl now ↦ let same = one_reading now.header entry.history now.holds in record { format = ap (λ (x : Header). x.format) same.0 ∙ sym now.format; sides = ap sides_of same.0 ∙ sym now.sides; history = inl same.1 }
-  | inr more ↦ let same = one_reading more.header (history_or_more entry) more.holds in record { format = ap (λ (x : Header). x.format) same.0 ∙ sym more.format; sides = ap sides_of same.0 ∙ sym more.sides; history = inr same.1 }
+  | inl now ↦ let same = one_reading now.header entry.history now.holds in record { format = ap (λ (x : Header). x.format) same.0 ∙ sym now.format; sides = subst (λ (x : Header). MayHaveSides entry (sides_of x)) (sym same.0) now.sides; history = inl same.1 }
+  | inr more ↦ let same = one_reading more.header (history_or_more entry) more.holds in record { format = ap (λ (x : Header). x.format) same.0 ∙ sym more.format; sides = subst (λ (x : Header). MayHaveSides entry (sides_of x)) (sym same.0) more.sides; history = inr same.1 }
 ]
   where
     one_reading : (g : Header) (gs : List Entry) → opened bytes ≡ holding g gs → (h ≡ g) × (es ≡ gs)
@@ -204,7 +205,8 @@ unhalted held es stands = stands.book.halted
 pub rests_started : (held : Held) (old mid : World) (started : IsStarted held old mid) → Rests (machine_of held started.entries) (present mid)
 rests_started held old mid started =
     rests_log (machine_of held started.entries) held.book.transdb (present mid) (record { format = refl; sides = refl; first = started.whole })
-    (subst (λ (d : Option ℕ). IsDurableBy d held.book.transdb (file_of 0 mid)) (unhalted held started.entries started.stands) started.durable) started.holds
+    (subst (λ (b : Bool). StandsBy b held.book.transdb (file_of 0 mid)) (started.stands.settled refl refl)
+    (subst (λ (d : Option ℕ). IsDurableBy d held.book.transdb (file_of 0 mid)) (unhalted held started.entries started.stands) started.durable)) started.holds
 
 pub played_from : (held : Held) (status : Status) (old mid new : World) → Runs 0 (KeepsOpened (file_of 0 old)) old mid → OnlyClosesGates old mid → ReadsImage (file_of 0 old) → (started : IsStarted held old mid)
     → IsPlayedOn (machine_of held started.entries) status mid new → IsPlayedFrom status old new
@@ -315,7 +317,9 @@ pub started_with : (held : Held) (db : Db) (es : List Entry) (old new : World) �
 started_with held db es old new run opens same stands whole is transdb settled = record {
   entries = es;
   stands = subst (λ (d : Db). StandsFor held (first_machine d.header.format (sides_of d.header) es)) (sym transdb) is;
-  durable = subst (λ (d : Option ℕ). IsDurableBy d held.book.transdb (file_of 0 new)) (sym settled) (subst (λ (d : Db). Stands d (file_of 0 new)) (sym transdb) stands);
+  durable = subst (λ (d : Option ℕ). IsDurableBy d held.book.transdb (file_of 0 new)) (sym settled)
+      (subst (λ (d : Db). StandsBy d.pair.settled d (file_of 0 new)) (sym transdb)
+      (subst (λ (b : Bool). StandsBy b db (file_of 0 new)) (sym (stands_settled db (file_of 0 new) stands).settled) stands));
   opens = subst (λ (d : Db). IfSome (file_of 0 old) (λ f. opened f.bytes ≡ holding d.header es)) (sym transdb) opens;
   holds = holds_read db.header es (file_of 0 old) (file_of 0 new) (run.only.told new.time run.only.later (omega arith)) opens same;
   whole = ap (λ (d : Db). first_held d.header) transdb ∙ whole;

@@ -10,7 +10,7 @@ use Rattle.odb_model.specs.declared.event.Event.TheVariants.{Session as OfSessio
 use Rattle.odb_model.specs.declared.reply.Head.{Head}
 use Rattle.odb_model.specs.declared.reply.Head.TheVariants.{Session as HeadOf, Control, Unknown}
 use Rattle.odb_model.specs.declared.reply.Reply.{Reply}
-use Rattle.odb_model.specs.declared.reply.Reply.TheVariants.{Okay, Committed, Ended, InDoubt, NotYet, NoTransaction, InTransaction, Halted, Conflict, HistoryFull, Full, Fault, Memory}
+use Rattle.odb_model.specs.declared.reply.Reply.TheVariants.{Okay, Committed, Ended, InDoubt, NotYet, NoTransaction, InTransaction, Halted, Conflict, HistoryFull, Full, Fault, Turned, Memory}
 use Rattle.odb_model.specs.declared.statement.Statement.{Statement}
 use Rattle.odb_model.specs.declared.statement.Statement.TheVariants.{Start, Commit, Select, Insert, Rollback, Update, Delete, CreateDatabank, CreateTable, DropTable, CreateShadow, ShadowOnline, ShadowOffline, ShadowMaster, DropShadow, CreateBackup, BackupReady, DropBackup, Restore}
 use Rattle.odb_model.specs.State.{replay}
@@ -18,14 +18,22 @@ use Rattle.odb_model.specs.Transaction.{Executed, open_state, table_keys, net, r
 use Rattle.odb_model.specs.Session.{Session, Idle, Working}
 use Rattle.odb_model.specs.Window.{window_start, oldest_number}
 use Rattle.odb_model.specs.Definitions.{Planned, Refused, Plans, planned}
-use Rattle.odb_model.specs.Book.{Book, Seen, Verdict, by_conflict, unless_aged, by_doubt, next_entry, Seals, Decides, DefinesBy, ends_transaction}
-use Rattle.odb_model.specs.Book as book
-use Rattle.odb_model.specs.Machine.{Machine, with_session, book_of, with_book, behind, with_doubt, history_or_more, writes_made, executed_now, Starts, Executes, Commits, RollsBack, DefinesIn, Refuses, UpkeepStep, StatementStep, Step}
+use Rattle.odb_machine.specs.Book.{Book, Seen, Verdict, by_conflict, unless_aged, by_doubt, next_entry, Seals, Decides, DefinesBy, ends_transaction}
+use Rattle.odb_machine.specs.Book as book
+use Rattle.odb_machine.specs.Machine.{Machine, with_session, book_of, with_book, behind, with_doubt, history_or_more, writes_made, executed_now, Starts, Executes, Commits, RollsBack, DefinesIn, Refuses, is_built, UpkeepStep, ControlStep, StatementStep, Step}
+use Rattle.odb_model.specs.declared.control.Control.{Control as ControlLine}
+use Rattle.odb_model.specs.declared.control.Control.TheVariants as control
+use Rattle.odb_model.specs.declared.side.OtherSide.{OtherSide}
+use Rattle.odb_model.specs.declared.side.OtherSide.TheVariants.{Live, Dirty, Clean}
+use Rattle.odb_machine.specs.Refusals.{first_of, doubt_refusal, unclean_refusal}
+use Rattle.odb_machine.specs.Controls.{WorksUnless, Controls}
 use Rattle.odb_model.specs.Script.{IsRefused}
-use Rattle.odb_model.specs.Play.{Answer, IsAnswer, IsRun, tells_fault}
+use Rattle.odb_machine.specs.Play.{Answer, IsAnswer, IsRun, tells_fault}
 use Rattle.odb_model.proofs.Meant.{is_meant}
 use Rattle.odb_model.proofs.Refusals.{is_refusal, not_refused}
-use Rattle.odb_model.proofs.Runs.{not_meant, unless_aged-or}
+use Rattle.odb_machine.proofs.Upkeep.{OnlyTurns, only_turns}
+use Rattle.odb_model.proofs.Longer.{not_meant}
+use Rattle.odb_machine.proofs.Runs.{unless_aged-or}
 use Rattle.odb_play.proofs.Outside.{TellRisen}
 
 -- the history never gets shorter, and what may be on the disk besides it stays or grows
@@ -254,13 +262,36 @@ leaves_runs m s seen (Restore bank name) reply after step = leaves_refuses m see
 leaves_step : (m : Machine) (s : ℕ) (st : Statement) (seen : Seen) (reply : Reply) (after : Machine) → Step m (OfSession s st) seen reply after → Leaves m seen reply after
 leaves_step m s st seen reply after step = leaves_runs m s seen st reply after step
 
-leaves_keeps : (m : Machine) (seen : Seen) (reply : Reply) (after : Machine) → UpkeepStep m reply after → Leaves m seen reply after
-leaves_keeps m seen NotYet after step = (goes_same m after step, tt)
-leaves_keeps m seen reply after step = absurd step
+-- a control line leaves the history and what is in doubt
+goes_turns : (m after : Machine) → OnlyTurns m after → GoesOn m after
+goes_turns m after only =
+    subst (λ (x : Machine). GoesOn m x) (sym only.2) (record { history = omega arith; more = []; longer = sym (append-nil (history_or_more m)) })
+
+-- and its reply tells of no commit, and of a fault only where the count rose
+so_turn : (doubt : Option Entry) (other : OtherSide) (m : Machine) (seen : Seen) (reply : Reply) (after : Machine)
+    → WorksUnless (first_of (doubt_refusal doubt ∷ unclean_refusal other ∷ [])) m seen control.Turn reply after → IsSo seen reply after
+so_turn (Some e) other m seen reply after step = subst (λ (r : Reply). IsSo seen r after) (sym step.0) tt
+so_turn None Live m seen reply after step = subst (λ (r : Reply). IsSo seen r after) (sym step.0) tt
+so_turn None Dirty m seen reply after step = subst (λ (r : Reply). IsSo seen r after) (sym step.0) tt
+so_turn None Clean m seen (Turned side first) after step = tt
+so_turn None Clean m seen (Fault f) after step = subst (λ (file : ℕ). seen.rose file ≡ true) (sym step.0) step.1
+so_turn None Clean m seen reply after step = absurd step
+
+so_controls : (m : Machine) (seen : Seen) (reply : Reply) (after : Machine) → Controls m seen control.Turn reply after → IsSo seen reply after
+so_controls m seen Memory after step = tt
+so_controls m seen reply after step = so_turn m.in_doubt m.sides.other m seen reply after step
+
+so_upkeep : (m : Machine) (seen : Seen) (reply : Reply) (after : Machine) → UpkeepStep m reply after → IsSo seen reply after
+so_upkeep m seen NotYet after step = tt
+so_upkeep m seen reply after step = absurd step
+
+so_line : (m : Machine) (line : ControlLine) (seen : Seen) (reply : Reply) (after : Machine) → ControlStep (is_built line) m seen line reply after → IsSo seen reply after
+so_line m control.Turn seen reply after step = so_controls m seen reply after step
+so_line m line seen reply after step = so_upkeep m seen reply after step
 
 leaves_event : (m : Machine) (event : Event) (seen : Seen) (reply : Reply) (after : Machine) → Step m event seen reply after → Leaves m seen reply after
 leaves_event m (OfSession s st) seen reply after step = leaves_step m s st seen reply after step
-leaves_event m (Upkeep control) seen reply after step = leaves_keeps m seen reply after step
+leaves_event m (Upkeep line) seen reply after step = (goes_turns m after (only_turns m line seen reply after step), so_line m line seen reply after step)
 
 -- a line that is refused tells of no commit and of no fault
 so_refused : (line : List ℕ) (head : Head) (reply : Reply) (seen : Seen) (after : Machine) → IsRefused line head reply → IsSo seen reply after

@@ -24,12 +24,12 @@ use Rattle.odb_play.specs.Part.{IsCaused}
 use Rattle.odb_play.specs.Played.{Replies, LineEnds}
 use Rattle.odb_play.proofs.Steps.{never_doubt}
 use Rattle.odb_play.proofs.Parts.{line_untold, line_part, line_whole}
-use Rattle.odb_model.specs.declared.reply.Reply.TheVariants.{Committed, Fault, InDoubt}
-use Rattle.odb_model.specs.Readings.{nothing_told}
-use Rattle.odb_model.specs.Book.{Seen}
-use Rattle.odb_model.specs.Machine.{Machine}
+use Rattle.odb_model.specs.declared.reply.Reply.TheVariants.{Committed, Fault, InDoubt, Turned}
+use Rattle.odb_machine.specs.Readings.{nothing_told}
+use Rattle.odb_machine.specs.Book.{Seen}
+use Rattle.odb_machine.specs.Machine.{Machine}
 use Rattle.odb_model.specs.Script.{IsRequest, IsRefused, head_of}
-use Rattle.odb_model.specs.Play.{Answer, IsAnswer, text_of_answer}
+use Rattle.odb_machine.specs.Play.{Answer, IsAnswer, text_of_answer}
 use Rattle.odb_model.proofs.Fronts.{IsFrontOf}
 use Rattle.odb_play.specs.declared.player.TheConstants.{FRONT}
 use Rattle.odb_play.proofs.Fronts.{front_asks_nothing, front_refused}
@@ -75,7 +75,7 @@ abbrev nothing_seen : Seen
 nothing_seen = record { rose = λ file. false; rose_before_gate = false; rose_at_gate = false; reads = nothing_told }
 
 -- a refused line is never answered by a commit or a fault
-unwritten : (line : List ℕ) (m : Machine) (head : Head) (reply : Reply) (w : World) → IsRefused line head reply → StepWrites m reply w w
+unwritten : (line : List ℕ) (m : Machine) (head : Head) (reply : Reply) (w : World) → IsRefused line head reply → StepWrites m head reply w w
 unwritten line m Unknown (Committed k) w refusal = absurd refusal
 unwritten line m Control (Committed k) w refusal = absurd refusal
 unwritten line m (HeadOf s) (Committed k) w refusal = absurd refusal
@@ -85,6 +85,9 @@ unwritten line m (HeadOf s) (Fault f) w refusal = absurd refusal
 unwritten line m Unknown (InDoubt k) w refusal = absurd refusal
 unwritten line m Control (InDoubt k) w refusal = absurd refusal
 unwritten line m (HeadOf s) (InDoubt k) w refusal = absurd refusal
+unwritten line m Unknown (Turned side first) w refusal = absurd refusal
+unwritten line m Control (Turned side first) w refusal = absurd refusal
+unwritten line m (HeadOf s) (Turned side first) w refusal = absurd refusal
 unwritten line m head reply w refusal = refl
 
 -- no file's count rose, nothing is in doubt, and nothing was written

@@ -5,20 +5,21 @@ use Rattle.odb_device.specs.Moments.{EachMoment, EachCrashSince}
 use Rattle.odb_device.specs.Steps.{Steps}
 use Rattle.odb_kept.specs.Kept.{KeptBy, TellsAsked}
 use Rattle.odb_model.specs.declared.entry.Entry.{Entry}
-use Rattle.odb_model.specs.Machine.{Machine, history_or_more}
-use Rattle.odb_model.specs.Play.{Answer, machine_after}
+use Rattle.odb_machine.specs.Machine.{Machine, history_or_more}
+use Rattle.odb_machine.specs.Play.{Answer, machine_after}
 use Rattle.odb_model.specs.Acknowledged.{Acknowledges}
 use Rattle.odb_transdb.specs.declared.header.Header.{Header}
 use Rattle.odb_transdb.specs.Header.{first_held}
 use Rattle.odb_transdb.specs.Opened.{Holds}
-use Rattle.odb_system.specs.Kept.{IsKept}
+use Rattle.odb_system.specs.Kept.{MayHaveSides, IsKept}
 use Rattle.odb_play.specs.Part.{Along}
 
 -- the machine that the run begins with goes on from the history of the one at entry, or from it
--- with the entry in doubt, in a database of the same format and sides
+-- with the entry in doubt, in a database of the same format and sides; where a turn of an earlier
+-- play may have been broken off, it may have those of that turn
 pub record IsFound (entry first : Machine) : Type 0 where
   pub format : first.format ≡ entry.format
-  pub sides : first.sides ≡ entry.sides
+  pub sides : MayHaveSides entry first.sides
   pub history : (first.history ≡ entry.history) ⊎ (first.history ≡ history_or_more entry)
 
 -- a machine keeps every image of every file as the call begins, one entry in doubt allowed, and the

@@ -6,8 +6,8 @@ use Rattle.odb_device.specs.Steps.{Steps}
 use Rattle.odb_model.specs.declared.entry.Entry.{Entry}
 use Rattle.odb_model.specs.declared.status.Status.{Status}
 use Rattle.odb_model.specs.declared.status.Status.TheVariants.{Done, Usage, ReadFault, WriteFault, FileFault, NoDatabase, Exists, Damaged, NotHeld, InputTooLong, NoMemory, NotACopy, Unfinished}
-use Rattle.odb_model.specs.Sides.{Sides}
-use Rattle.odb_model.specs.Machine.{first_machine}
+use Rattle.odb_machine.specs.Sides.{Sides}
+use Rattle.odb_machine.specs.Machine.{first_machine}
 use Rattle.odb_transdb.specs.declared.header.Header.{Header}
 use Rattle.odb_transdb.specs.Header.{first_held}
 use Rattle.odb_transdb.specs.Opened.{Opened, no_database, damaged, holding, opened}

@@ -5,10 +5,10 @@ use Rattle.odb_device.specs.Calls.{FileCountRose}
 use Rattle.odb_device.specs.Console.{Says}
 use Rattle.odb_device.specs.Steps.{Steps, IsQuiet}
 use Rattle.odb_kept.specs.Running.{KeptAlong, IsRunning}
-use Rattle.odb_model.specs.Machine.{Machine}
-use Rattle.odb_model.specs.Play.{Answer, machine_after, text_of_answer, said_by}
+use Rattle.odb_machine.specs.Machine.{Machine}
+use Rattle.odb_machine.specs.Play.{Answer, machine_after, text_of_answer, said_by}
 use Rattle.odb_reply.specs.Telling.{TellsAlone}
-use Rattle.odb_system.specs.Kept.{IsKept, Rests, RoseFromGate, IsDoubtCaused, StepWrites}
+use Rattle.odb_system.specs.Kept.{IsKept, Rests, IsRoseFromGate, IsDoubtCaused, StepWrites}
 use Rattle.odb_play.specs.Outside.{TouchesOnly, Passed, LeavesFiles}
 
 abbrev pub after_of : Answer → Machine
@@ -26,9 +26,9 @@ Along = KeptAlong IsKept after_of text_of_answer
 pub record IsCaused (m : Machine) (answer : Answer) (before after : World) : Type 0 where
   pub rose : (file : ℕ) → answer.seen.rose file ≡ true → FileCountRose file before after
   pub before_gate : answer.seen.rose_before_gate ≡ true → FileCountRose 0 before after
-  pub from_gate : answer.seen.rose_at_gate ≡ true → RoseFromGate m answer.after before after
+  pub from_gate : answer.seen.rose_at_gate ≡ true → IsRoseFromGate m answer.after before after
   pub doubt : IsDoubtCaused m answer.reply answer.after before after
-  pub writes : StepWrites m answer.reply before after
+  pub writes : StepWrites m answer.head answer.reply before after
 
 -- From machine m on, the step of the answer was taken between two moments of a stretch, the last
 -- ones of `before` and `after`. At both just these bytes are said since its beginning; until the

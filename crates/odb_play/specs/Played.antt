@@ -8,8 +8,8 @@ use Rattle.odb_model.specs.declared.reply.Head.{Head}
 use Rattle.odb_model.specs.declared.reply.Reply.{Reply}
 use Rattle.odb_model.specs.declared.status.Status.{Status}
 use Rattle.odb_model.specs.declared.status.Status.TheVariants.{Done, WriteFault as BadOutput, NoMemory as OutOfMemory}
-use Rattle.odb_model.specs.Machine.{Machine}
-use Rattle.odb_model.specs.Play.{Answer, IsAnswer, IsRun, machine_after, text_of_answer, said_by, PlayEnds}
+use Rattle.odb_machine.specs.Machine.{Machine}
+use Rattle.odb_machine.specs.Play.{Answer, IsAnswer, IsRun, machine_after, text_of_answer, said_by, PlayEnds}
 use Rattle.odb_model.specs.Script.{ended_lines, open_line, all_lines}
 use Rattle.odb_system.specs.Held.{Held, StandsFor}
 use Rattle.odb_system.specs.Kept.{IsKept, Rests}

@@ -4,7 +4,7 @@ use Rattle.odb_device.specs.World.{World, file_of}
 use Rattle.odb_model.specs.declared.status.Status.{Status}
 use Rattle.odb_model.specs.declared.status.Status.TheVariants.{Done, Usage, ReadFault, WriteFault, FileFault, NoDatabase, Exists, Damaged, NotHeld, InputTooLong, NoMemory, NotACopy, Unfinished}
 use Rattle.odb_model.specs.declared.entry.Entry.{Entry}
-use Rattle.odb_model.specs.Machine.{Machine, first_machine}
+use Rattle.odb_machine.specs.Machine.{Machine, first_machine}
 use Rattle.odb_transdb.specs.Header.{first_held}
 use Rattle.odb_transdb.specs.Opened.{holding, opened, entries_in}
 use Rattle.odb_transdb.specs.declared.error.TransdbError.{TransdbError}

@@ -2,8 +2,8 @@
 ghost use Rattle.std.specs.Prelude.{◌≡◌, ℕ, ◌+◌, ◌-◌, List, [], ◌∷◌, ◌++◌, take, length, position, ◌==◌, OnOk, OnErr, Err};
 ghost use Rattle.odb_device.specs.World.{file_of, present};
 ghost use Rattle.odb_device.specs.Console.{TakesNothing, SayCountRose};
-ghost use Rattle.odb_model.specs.Machine.{Machine};
-ghost use Rattle.odb_model.specs.Play.{Answer};
+ghost use Rattle.odb_machine.specs.Machine.{Machine};
+ghost use Rattle.odb_machine.specs.Play.{Answer};
 ghost use Rattle.odb_model.specs.Script.{head_of, without_cr};
 ghost use Rattle.odb_system.specs.Held.{StandsFor};
 ghost use Rattle.odb_system.specs.Durable.{IsDurable, ChangesLog};

@@ -1,8 +1,8 @@
 //! Playing a whole script: the call `play`.
 ghost use Rattle.std.specs.Prelude.{◌≡◌, ◌≢◌, ℕ, ◌<◌, ◌≤◌, List, [], length, take, IfOk, IfErr, IfSome, OnErr, Err};
 ghost use Rattle.odb_device.specs.Console.{Talks, SaysNothing, Takes, TakesNothing, EndsInput, SayCountRose, TakeCountRose};
-ghost use Rattle.odb_model.specs.Machine.{Machine};
-ghost use Rattle.odb_model.specs.Play.{Answer};
+ghost use Rattle.odb_machine.specs.Machine.{Machine};
+ghost use Rattle.odb_machine.specs.Play.{Answer};
 ghost use Rattle.odb_device.specs.World.{file_of, present};
 ghost use Rattle.odb_device.specs.Calls.{FileCountRose};
 ghost use Rattle.odb_transdb.specs.Opened.{opened};
@@ -40,8 +40,8 @@ const MOST_INPUT: u64 = 4_294_967_296;
 /// machine after i answers or after i + 1: a TRANSDB that opens to its history, or to it and the
 /// entry in doubt. This is promised of files that some machine keeps so at the call, and that are
 /// told; once the opening is over, of any. From then on TRANSDB changes only in the steps of lines
-/// that are answered COMMITTED, FAULT or INDOUBT: never while a reply is said, between two steps,
-/// or behind the last one.
+/// that are answered COMMITTED, FAULT, INDOUBT or TURNED: never while a reply is said, between two
+/// steps, or behind the last one.
 pub fn play<H: Host>(alloc: Global, host: &mut H) -> Status
     ensures played { PlayOutcome result (H.world host.old) (H.world host.new) }
     ensures opened { IfSome (file_of 0 (H.world host.old))

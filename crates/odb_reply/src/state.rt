@@ -1,7 +1,7 @@
 //! The lines of STATE.
-ghost use Rattle.std.specs.Prelude.{◌≡◌, flat_map};
+ghost use Rattle.std.specs.Prelude.{◌≡◌};
 ghost use Rattle.odb_lex.specs.Written.{Appends};
-ghost use Rattle.odb_model.specs.Print.{line_of, phase_text, side_text, mark_text, log_words, copy_words, sides_words, state_text};
+ghost use Rattle.odb_model.specs.Print.{line_of, phase_text, side_text, mark_text, log_words, copy_words, copies_lines, sides_words, state_text};
 
 use crate::print::{put_head, put_line, put_number_line, put_two_numbers};
 use odb_model::{CopyLine, CopyPhase, Head, LogSpan, OtherSide, StateReply};
@@ -66,7 +66,7 @@ fn put_log(out: &mut String, head: Head, log: Option<LogSpan>) -> Result<(), All
 }
 
 fn put_copies(out: &mut String, head: Head, copies: &[CopyLine]) -> Result<(), AllocError>
-    ensures { Appends result out.old out.new (flat_map (λ c. line_of head (copy_words c)) copies.now) }
+    ensures { Appends result out.old out.new (copies_lines head copies.now) }
 {
     for copy in copies {
         put_copy(out, head, copy)?;

@@ -22,7 +22,7 @@ use Rattle.odb_model.specs.Databanks.{Databank, databanks, row_key, next_number}
 use Rattle.odb_model.specs.Definitions.{dictionary_write, IsSpelled}
 use Rattle.odb_model.specs.Storable.{AreStorable, IsStorableList, HaveKeys, HasKeys}
 use Rattle.odb_model.specs.Transaction.{table_keys, meaning_over, alone_writes, net}
-use Rattle.odb_model.specs.Book.{most_entries}
+use Rattle.odb_machine.specs.Book.{most_entries}
 use Rattle.odb_model.specs.Script.{IsSession}
 use Rattle.odb_model.proofs.Replay.{replay_from-append}
 use Rattle.odb_model.proofs.Covering.{and_true}

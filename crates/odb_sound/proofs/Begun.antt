@@ -12,12 +12,12 @@ use Rattle.odb_model.specs.State.{State, table_key_cmp, part_in, is_in}
 use Rattle.odb_model.specs.Table.{Table, kv, is_named}
 use Rattle.odb_model.specs.Dictionary.{table_of, table_in_row, in_dictionary, has_name_form}
 use Rattle.odb_model.specs.Databanks.{Databank, sysdb, main, fixed_shadow, databank_in_row, databank_rows, databanks_told, that_count, databanks, in_row, number_in_row, next_number}
-use Rattle.odb_model.specs.Sides.{Sides}
-use Rattle.odb_model.specs.Machine.{first_machine}
-use Rattle.odb_model.specs.Book.{most_entries}
+use Rattle.odb_machine.specs.Sides.{Sides}
+use Rattle.odb_machine.specs.Machine.{first_machine}
+use Rattle.odb_machine.specs.Book.{most_entries}
 use Rattle.odb_model.proofs.Parts.{entries-retain_keys}
 use Rattle.odb_model.proofs.Keys.{entries-empty}
-use Rattle.odb_model.proofs.Runs.{answered_first}
+use Rattle.odb_machine.proofs.Runs.{answered_first}
 use Rattle.odb_codec.specs.Image.{HasImage}
 use Rattle.odb_catalog.proofs.Names.{inside_some, same_names}
 use Rattle.odb_sound.proofs.Kept.{OfWrite, of_replay}

@@ -15,12 +15,14 @@ use Rattle.odb_model.specs.Transaction.{Executed, statements_of, alone_writes, w
 use Rattle.odb_model.specs.Session.{Session, Idle, Working}
 use Rattle.odb_model.specs.Window.{window_start, oldest_number}
 use Rattle.odb_model.specs.Script.{IsSession}
-use Rattle.odb_model.specs.Serial.{HasOpenReplies, SessionAnsweredFromSnapshots, AnsweredFromSnapshots}
-use Rattle.odb_model.specs.Book.{Book, Seen, Verdict, by_conflict, unless_aged, by_doubt, verdict, next_entry, most_entries, with_entry, with_doubted, Seals, Decides, DefinesBy, Defines, ends_transaction}
-use Rattle.odb_model.specs.Book as book
-use Rattle.odb_model.specs.Machine.{Machine, with_session, book_of, with_book, with_doubt, behind, executed_now, Starts, Executes, Commits, RollsBack, DefinesIn, Refuses, UpkeepStep, StatementStep, Step}
+use Rattle.odb_model.specs.Serial.{HasOpenReplies, SessionAnsweredFromSnapshots}
+use Rattle.odb_machine.specs.Answered.{AnsweredFromSnapshots}
+use Rattle.odb_machine.specs.Book.{Book, Seen, Verdict, by_conflict, unless_aged, by_doubt, verdict, next_entry, most_entries, with_entry, with_doubted, Seals, Decides, DefinesBy, Defines, ends_transaction}
+use Rattle.odb_machine.specs.Book as book
+use Rattle.odb_machine.specs.Machine.{Machine, with_session, book_of, with_book, with_doubt, behind, executed_now, Starts, Executes, Commits, RollsBack, DefinesIn, Refuses, StatementStep, Step}
 use Rattle.odb_model.proofs.Own.{no_conflict, runs_lawfully, DoesAlone, does_alone}
-use Rattle.odb_model.proofs.Runs.{answered_step}
+use Rattle.odb_machine.proofs.Upkeep.{OnlyTurns, only_turns}
+use Rattle.odb_machine.proofs.Runs.{answered_step}
 use Rattle.odb_sound.specs.Sound.{IsSoundHistory, HasSpelled, IsSound, IsSpelledEvent}
 use Rattle.odb_sound.proofs.Appended.{pushed, transaction_fits}
 use Rattle.odb_sound.proofs.Defined.{planned_fits}
@@ -228,12 +230,19 @@ whole m sound answered = record { history = sound.book.history; doubted = sound.
 part : (m : Machine) → IsSound m → IsSoundPart m
 part m sound = record { book = record { history = sound.history; doubted = sound.doubted }; spelled = sound.spelled }
 
-upkeep_sound : (m : Machine) (reply : Reply) (after : Machine) → IsSound m → UpkeepStep m reply after → IsSound after
-upkeep_sound m NotYet after sound step = let P : Machine → Type 0 = λ x. IsSound x in subst P (sym step) sound
-upkeep_sound m reply after sound step = absurd step
+-- a control line changes nothing but what the sides of TRANSDB are
+turns_sound : (m after : Machine) → IsSound m → OnlyTurns m after → IsSound after
+turns_sound m after sound only =
+    let P : Machine → Type 0 = λ x. IsSound x in
+    subst P (sym only.2) (record {
+      history = sound.history;
+      doubted = sound.doubted;
+      spelled = sound.spelled;
+      answered = record { history = sound.answered.history; sessions = sound.answered.sessions };
+    })
 
 pub step_sound : (m after : Machine) (event : Event) (seen : Seen) (reply : Reply) → m.format ≡ 1 → IsSpelledEvent event → IsSound m → Step m event seen reply after → IsSound after
 step_sound m after (OfSession s st) seen reply format spelled sound step =
     whole after (statement_sound m s seen format spelled.0 sound.answered (part m sound) st spelled.1 reply after step)
     (answered_step m s st seen reply after sound.answered step)
-step_sound m after (Upkeep control) seen reply format spelled sound step = upkeep_sound m reply after sound step
+step_sound m after (Upkeep control) seen reply format spelled sound step = turns_sound m after sound (only_turns m control seen reply after step)

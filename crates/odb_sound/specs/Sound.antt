@@ -18,10 +18,10 @@ use Rattle.odb_model.specs.Dictionary.{table_of, table_in_row, has_name_form}
 use Rattle.odb_model.specs.Databanks.{Databank, dictionary_table, databank_kind, table_kind, number_kind, row_key, sysdb, fixed_shadow, is_sysdb, databank_in_row, databanks, databank_named, number_in_row, next_number}
 use Rattle.odb_model.specs.Definitions.{IsSpelled}
 use Rattle.odb_model.specs.Fitting.{characters}
-use Rattle.odb_model.specs.Book.{most_entries}
-use Rattle.odb_model.specs.Machine.{Machine, history_or_more}
+use Rattle.odb_machine.specs.Book.{most_entries}
+use Rattle.odb_machine.specs.Machine.{Machine, history_or_more}
 use Rattle.odb_model.specs.Script.{IsSession}
-use Rattle.odb_model.specs.Serial.{AnsweredFromSnapshots}
+use Rattle.odb_machine.specs.Answered.{AnsweredFromSnapshots}
 use Rattle.odb_codec.specs.Image.{HasImage}
 use Rattle.odb_catalog.specs.Telling.{AreUsed}
 

@@ -5,9 +5,9 @@ ghost use Rattle.odb_model.specs.declared.event.Event.{Event};
 ghost use Rattle.odb_model.specs.declared.reply.Reply.{Reply};
 ghost use Rattle.odb_model.specs.State.{replay};
 ghost use Rattle.odb_model.specs.Databanks.{next_number};
-ghost use Rattle.odb_model.specs.Sides.{Sides};
-ghost use Rattle.odb_model.specs.Book.{Seen};
-ghost use Rattle.odb_model.specs.Machine.{Machine, Step, first_machine};
+ghost use Rattle.odb_machine.specs.Sides.{Sides};
+ghost use Rattle.odb_machine.specs.Book.{Seen};
+ghost use Rattle.odb_machine.specs.Machine.{Machine, Step, first_machine};
 ghost use Rattle.odb_sound.specs.Sound.{IsSoundHistory, IsSound, IsSpelledEvent};
 
 /// A new database is sound, and in a database of format 1 every step of the machine keeps it so: a

@@ -7,11 +7,14 @@ use Rattle.odb_model.specs.declared.entry.Entry.{Entry}
 use Rattle.odb_model.specs.State.{State, after_writes}
 use Rattle.odb_model.specs.Storable.{HaveKeys, HasKeys}
 use Rattle.odb_model.specs.Width.{record_width}
-use Rattle.odb_model.specs.Book.{most_entries}
+use Rattle.odb_machine.specs.Book.{most_entries}
 use Rattle.odb_model.proofs.KeysKept.{after_keyed}
 use Rattle.odb_codec.specs.Image.{entry_image}
 use Rattle.odb_transdb.specs.Header.{first_held}
-use Rattle.odb_transdb.specs.Standing.{IsAdvanced, Stands, room_of}
+use Rattle.odb_transdb.specs.Opened.{entries_in}
+use Rattle.odb_transdb.specs.Standing.{Db, IsAdvanced, Stands, room_of}
+use Rattle.odb_transdb.specs.Turning.{MayStand}
+use Rattle.odb_transdb.proofs.Settling.{may_stand}
 use Rattle.odb_keytable.specs.Committed.{Committed}
 use Rattle.odb_txn.specs.Transaction.{Kept}
 use Rattle.odb_validate.specs.declared.error.Aged.{Aged}
@@ -19,10 +22,10 @@ use Rattle.odb_validate.specs.Window.{Windowed, reserve}
 use Rattle.odb_commit.specs.declared.error.CommitError.{CommitError}
 use Rattle.odb_commit.specs.declared.error.CommitError.TheVariants as e
 use Rattle.odb_commit.specs.Parts.{Parts, count, IsAligned, CanSeal, Preparation, Refuses, Ends, ToSeal, entry_after, sealing_of, by_writes, by_validation, by_halt, prepared}
-use Rattle.odb_commit.specs.Sealing.{IsSealed, Forces}
+use Rattle.odb_commit.specs.Sealing.{IsSealed, SealsLog}
 use Rattle.odb_system.specs.Held.{Held, HeldSeals, TakesRecords, rows_sealed, sealing_reply, without_place}
 use Rattle.odb_system.specs.Sealed.{FitRows, SealsBy, SealsRows}
-use Rattle.odb_system.specs.Durable.{IsDurableBy}
+use Rattle.odb_system.specs.Durable.{StandsBy, IsDurableBy}
 
 -- the history has room for the entry that is to be sealed
 not_least : (m n : ℕ) → nat_le m n ≡ false → n < m
@@ -60,8 +63,8 @@ few_prepared b txn x is = few_unless b.halted b txn.session _ _ x is
 -- what a call of `seal` leaves
 
 pub seals_rows : (entry : Entry) (image : List ℕ) (result : Result ℕ CommitError) (old new : Parts) (rows after : Committed) (before now : World) → IsSealed entry result old new
-    → Forces entry image result old.transdb new.transdb before now → after.state ≡ rows_sealed result rows.state entry → SealsRows entry image (sealing_reply result) old new rows after before now
-seals_rows entry image result old new rows after before now sealed forces is = inr (result, refl, record { sealed = sealed; forces = forces; rows_are = is })
+    → SealsLog entry image result old.transdb new.transdb before now → after.state ≡ rows_sealed result rows.state entry → SealsRows entry image (sealing_reply result) old new rows after before now
+seals_rows entry image result old new rows after before now sealed seals is = inr (result, refl, record { sealed = sealed; seals = seals; rows_are = is })
 
 -- the rows with an entry more
 pub fit_sealed : (old new : Parts) (entry placed : Entry) (image : List ℕ) (n : ℕ) (rows after : Committed) → CanSeal old entry image → IsAligned new → new.halted ≡ None → IsAdvanced n old.transdb new.transdb
@@ -100,7 +103,7 @@ pub held_seals : (book new : Parts) (xs ys : List (Option Kept)) (rows after : C
 held_seals book new xs ys rows after entry image result before now first ready by = record {
   log = record { settled = ready.settled; first = first; usable = ready.usable };
   sealed = placeless entry result book new by.sealed;
-  forces = subst (λ (bytes : List ℕ). Forces entry bytes result book.transdb new.transdb before now) ready.image_is by.forces;
+  seals = subst (λ (bytes : List ℕ). SealsLog entry bytes result book.transdb new.transdb before now) ready.image_is by.seals;
   rows = by.rows_are;
 }
 
@@ -119,11 +122,26 @@ fit_in b rows keyed waiting = record { keyed = keyed; waiting = waiting }
 pub fit_reserved : (b : Parts) (rows : Committed) → FitRows b rows → FitRows (record b { window = reserve b.window }) rows
 fit_reserved b rows fit = record { keyed = fit.keyed; waiting = fit.waiting }
 
--- the log stands for the file before an entry is sealed
-pub stands_settled : (b : Parts) (file : Option File) → b.halted ≡ None → IsDurableBy b.halted b.transdb file → Stands b.transdb file
-stands_settled b file settled durable = subst (λ (d : Option ℕ). IsDurableBy d b.transdb file) settled durable
+-- the log stands for some entries of the file, whether the pair is settled or not
+may_by : (settled : Bool) (db : Db) (file : Option File) → StandsBy settled db file → MayStand db file
+may_by true db file stands = (entries_in file, may_stand db file stands)
+may_by false db file broken = (broken.entries, broken.since)
+
+pub stands_settled : (b : Parts) (file : Option File) → b.halted ≡ None → IsDurableBy b.halted b.transdb file → MayStand b.transdb file
+stands_settled b file settled durable = may_by b.transdb.pair.settled b.transdb file (subst (λ (d : Option ℕ). IsDurableBy d b.transdb file) settled durable)
 
 -- the header stays
 pub first_sealed : (entry : Entry) (image : List ℕ) (result : Result ℕ CommitError) (old new : Parts) (rows after : Committed) (before now : World) → SealsBy entry image result old new rows after before now
     → first_held old.transdb.header ≡ 1 → first_held new.transdb.header ≡ 1
-first_sealed entry image result old new rows after before now by first = ap first_held by.forces.placed.header ∙ first
+first_sealed entry image result old new rows after before now by first = ap first_held by.seals.placed.header ∙ first
+
+-- and the history has no more entries than it may have
+pub few_sealed : (entry : Entry) (image : List ℕ) (result : Result ℕ CommitError) (old new : Parts) (rows after : Committed) (before now : World) → CanSeal old entry image → count old < most_entries → IsAligned new
+    → SealsBy entry image result old new rows after before now → count new ≤ most_entries
+few_sealed entry image (Ok number) old new rows after before now ready few aligned by =
+    omega (arith, aligned.ends by.sealed.2, by.seals.advanced.next, ready.next, ready.number, few)
+few_sealed entry image (Err e.FaultBefore) old new rows after before now ready few aligned by =
+    subst (λ (w : Windowed). w.start + length w.entries ≤ most_entries) (sym by.sealed.0) (omega (arith, few))
+few_sealed entry image (Err (e.InDoubt number)) old new rows after before now ready few aligned by =
+    subst (λ (w : Windowed). w.start + length w.entries ≤ most_entries) (sym by.sealed.1) (omega (arith, few))
+few_sealed entry image (Err error) old new rows after before now ready few aligned by = absurd by.sealed

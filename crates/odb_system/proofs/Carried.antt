@@ -2,15 +2,15 @@
 use Rattle.std.proofs.Common.{◌≡◌, ℕ, ◌+◌, ◌<◌, ◌≤◌, Bool, true, false, nat_lt, nat_le, cond, List, [], ◌∷◌, ◌++◌, length, Option, Some, None, option_map, Result, Ok, Err, refl, sym, ap, subst, ◌∙◌, arith}
 use Rattle.std.specs.FinMap.{empty}
 use Rattle.std.proofs.lemmas.Bool.Decides.{nat_tests}
-use Rattle.odb_device.specs.World.{World, file_of}
+use Rattle.odb_device.specs.World.{World}
 use Rattle.odb_model.specs.declared.write.Write.{Write}
 use Rattle.odb_model.specs.declared.entry.Entry.{Entry}
 use Rattle.odb_model.specs.declared.reply.Reply.{Reply}
-use Rattle.odb_model.specs.declared.reply.Reply.TheVariants.{Committed, Ended, InDoubt, Halted, Aged, Conflict, HistoryFull, Full, Fault}
+use Rattle.odb_model.specs.declared.reply.Reply.TheVariants.{Committed, Ended, InDoubt, Halted, Aged, Conflict, HistoryFull, Full, Fault, Turned}
 use Rattle.odb_model.specs.State.{State, after_writes, replay}
-use Rattle.odb_model.specs.Book.{Book, Verdict, next_entry, need_of, room_of, most_entries, HasPlace, with_entry, with_doubted, Seals, Decides}
-use Rattle.odb_model.specs.Book as book
-use Rattle.odb_model.specs.Machine.{Machine, book_of}
+use Rattle.odb_machine.specs.Book.{Book, Verdict, next_entry, need_of, room_of, most_entries, HasPlace, with_entry, with_doubted, Seals, Decides}
+use Rattle.odb_machine.specs.Book as book
+use Rattle.odb_machine.specs.Machine.{Machine, book_of}
 use Rattle.odb_model.specs.Width.{entry_width}
 use Rattle.odb_model.proofs.Replay.{replay_from-append}
 use Rattle.odb_codec.specs.Image.{entry_image}
@@ -24,11 +24,12 @@ use Rattle.odb_commit.specs.Standing.{StandsFor as BookStandsFor, sealing_in, pr
 use Rattle.odb_commit.proofs.Following.{sealed, faulted, doubted}
 use Rattle.odb_system.specs.Held.{Held, reply_of, sealing_reply, HeldSeals, StaysBook, CarriesOut, told_by}
 
--- whether a reply tells of no entry and of no fault of TRANSDB
+-- whether a reply tells of no entry, of no turn and of no fault of TRANSDB
 unfoldable pub is_plain : Reply → Bool
 is_plain (Committed k) = false
 is_plain (Fault f) = false
 is_plain (InDoubt k) = false
+is_plain (Turned side first) = false
 is_plain reply = true
 
 plain_halted : (k : ℕ) → is_plain (Halted k) ≡ true
@@ -124,9 +125,9 @@ module _ (since : ℕ) (held : Held) (before : Book) (stands : BookStandsFor sin
         let settled : before.in_doubt ≡ None = no_doubt step.log.settled in
         let number_is : entry.number ≡ length before.history + 1 = ap (λ (x : Entry). x.number) is in
         let width : length (entry_image entry) ≡ entry_width entry = length-entry_image entry in
-        let on : IsAdvanced (13 + entry_width entry) held.book.transdb after.book.transdb = subst (λ (n : ℕ). IsAdvanced (13 + n) held.book.transdb after.book.transdb) width step.forces.forced.advanced in
+        let on : IsAdvanced (13 + entry_width entry) held.book.transdb after.book.transdb = subst (λ (n : ℕ). IsAdvanced (13 + n) held.book.transdb after.book.transdb) width step.seals.advanced in
         let there : BookStandsFor since (record { transdb = after.book.transdb; window = push held.book.window entry; halted = None }) (with_entry before entry) =
-        sealed since held.book before entry after.book.transdb stands settled number_is step.forces.placed on in
+        sealed since held.book before entry after.book.transdb stands settled number_is step.seals.placed on in
         let same : after.book ≡ record { transdb = after.book.transdb; window = push held.book.window entry; halted = None } =
         λ i. record { transdb = after.book.transdb; window = step.sealed.1 i; halted = step.sealed.2 i } in
         record {
@@ -135,14 +136,14 @@ module _ (since : ℕ) (held : Held) (before : Book) (stands : BookStandsFor sin
           kept = record {
             book = subst (λ (p : Parts). BookStandsFor since p (with_entry before entry)) (sym same) there;
             rows = step.rows ∙ ap (λ (s : State). after_writes s entry.writes) rows ∙ sym (replay_from-append empty before.history (entry ∷ []));
-            header = step.forces.placed.header;
+            header = step.seals.placed.header;
           };
           effect = seals entry (Ok number) refl step refl;
         }
     sealed_went entry (Err e.FaultBefore) after old new is place step =
         let settled : before.in_doubt ≡ None = no_doubt step.log.settled in
         let there : BookStandsFor since (record held.book { transdb = after.book.transdb }) before =
-        faulted since held.book before after.book.transdb (file_of 0 old) (file_of 0 new) stands step.forces.placed (step.forces.faulted refl).settles in
+        faulted since held.book before after.book.transdb stands step.seals.placed (step.seals.still refl) in
         let same : after.book ≡ record held.book { transdb = after.book.transdb } =
         λ i. record { transdb = after.book.transdb; window = step.sealed.0 i; halted = (step.sealed.1 ∙ sym step.log.settled) i } in
         record {
@@ -151,14 +152,14 @@ module _ (since : ℕ) (held : Held) (before : Book) (stands : BookStandsFor sin
           kept = record {
             book = subst (λ (p : Parts). BookStandsFor since p before) (sym same) there;
             rows = step.rows ∙ rows;
-            header = step.forces.placed.header;
+            header = step.seals.placed.header;
           };
           effect = seals entry (Err e.FaultBefore) refl step refl;
         }
     sealed_went entry (Err (e.InDoubt number)) after old new is place step =
         let number_is : entry.number ≡ length before.history + 1 = ap (λ (x : Entry). x.number) is in
         let there : BookStandsFor since (record held.book { transdb = after.book.transdb; halted = Some entry.number }) (with_doubted before entry) =
-        doubted since held.book before entry after.book.transdb stands step.forces.placed in
+        doubted since held.book before entry after.book.transdb stands step.seals.placed in
         let same : after.book ≡ record held.book { transdb = after.book.transdb; halted = Some entry.number } =
         λ i. record { transdb = after.book.transdb; window = step.sealed.1 i; halted = (step.sealed.2 ∙ ap Some step.sealed.0) i } in
         record {
@@ -167,7 +168,7 @@ module _ (since : ℕ) (held : Held) (before : Book) (stands : BookStandsFor sin
           kept = record {
             book = subst (λ (p : Parts). BookStandsFor since p (with_doubted before entry)) (sym same) there;
             rows = step.rows ∙ rows;
-            header = step.forces.placed.header;
+            header = step.seals.placed.header;
           };
           effect = seals entry (Err (e.InDoubt number)) refl step refl;
         }

@@ -13,6 +13,7 @@ use Rattle.odb_model.specs.declared.statement.Statement.{Statement}
 use Rattle.odb_model.specs.State.{State, replay}
 use Rattle.odb_model.specs.Storable.{HaveKeys, HasKeys}
 use Rattle.odb_model.proofs.KeysKept.{history_keyed}
+use Rattle.odb_machine.specs.Book.{most_entries}
 use Rattle.odb_transdb.specs.Header.{first_held}
 use Rattle.odb_transdb.specs.Standing.{Db}
 use Rattle.odb_keytable.specs.Committed.{Committed}
@@ -27,11 +28,12 @@ abbrev pub first_book : ℕ → Db → Parts
 first_book n db = record { transdb = db; window = record { start = n; entries = []; is_reserved = false }; halted = None }
 
 -- a system that begins
-pub held_first : (h : List Entry) (xs : List (Option Kept)) (db : Db) (rows : State) → Begins db h → HasKeys rows → xs ≡ replicate 64 none_open
+pub held_first : (h : List Entry) (xs : List (Option Kept)) (db : Db) (rows : State) → Begins db h → length h ≤ most_entries → HasKeys rows → xs ≡ replicate 64 none_open
     → IsHeld (record { book = first_book (length h) db; sessions = xs; rows = rows })
-held_first h xs db rows begins keyed same = record {
+held_first h xs db rows begins few keyed same = record {
   count = rw same refl;
   aligned = record { ends = λ _. omega (arith, begins.next); usable = λ _. begins.usable };
+  few = omega (arith, few);
   first = begins.first;
   keyed = keyed;
   each = subst (All IsOpen) (sym same) (All-replicate IsOpen 64 none_open tt);
@@ -59,15 +61,16 @@ pub held_open : (held : Held) (at : ℕ) (t : Option Kept) → IsHeld held → I
 held_open held at t is fits = record {
   count = length-set held.sessions at t ∙ is.count;
   aligned = is.aligned;
+  few = is.few;
   first = is.first;
   keyed = is.keyed;
   each = All-set IsOpen held.sessions at t fits is.each;
 }
 
 -- the book and the rows go on
-pub held_on : (held : Held) (book : Parts) (rows : State) → IsHeld held → IsAligned book → first_held book.transdb.header ≡ 1 → HasKeys rows
+pub held_on : (held : Held) (book : Parts) (rows : State) → IsHeld held → IsAligned book → count book ≤ most_entries → first_held book.transdb.header ≡ 1 → HasKeys rows
     → IsHeld (record { book = book; sessions = held.sessions; rows = rows })
-held_on held book rows is aligned first keyed = record { count = is.count; aligned = aligned; first = first; keyed = keyed; each = is.each }
+held_on held book rows is aligned few first keyed = record { count = is.count; aligned = aligned; few = few; first = first; keyed = keyed; each = is.each }
 
 -- what was read at a place is the session there
 pub session_here : (xs : List (Option Kept)) (at : ℕ) (x : Option Kept) → at < length xs → x ≡ slice_index_or xs at x → unwrap_or (slice_get xs at) None ≡ x

@@ -8,3 +8,5 @@ mod Behind
 mod Prepared
 mod Running
 pub mod Keeping
+mod Stepping
+mod Turns

@@ -1,12 +1,12 @@
 -- What a commit step that was prepared and carried out makes of what a system holds.
-use Rattle.std.proofs.Common.{◌≡◌, ℕ, ◌+◌, ◌<◌, Bool, true, false, List, Option, Some, None, Result, Ok, Err, inl, inr, refl, sym, ap, subst, ◌∙◌}
+use Rattle.std.proofs.Common.{◌≡◌, ℕ, ◌+◌, ◌<◌, ◌≤◌, Bool, true, false, List, Option, Some, None, Result, Ok, Err, inl, inr, refl, sym, ap, subst, ◌∙◌}
 use Rattle.odb_device.specs.World.{World}
 use Rattle.odb_model.specs.declared.entry.Entry.{Entry}
 use Rattle.odb_model.specs.declared.write.Write.{Write}
 use Rattle.odb_model.specs.declared.statement.Statement.{Statement}
 use Rattle.odb_model.specs.declared.reply.Reply.{Reply}
 use Rattle.odb_model.specs.declared.reply.Reply.TheVariants.{Memory, Ended, Halted, InTransaction}
-use Rattle.odb_model.specs.Book.{most_entries}
+use Rattle.odb_machine.specs.Book.{most_entries}
 use Rattle.odb_model.specs.Definitions.{Planned, Refused, Plans, planned}
 use Rattle.odb_model.specs.State.{State}
 use Rattle.odb_model.specs.Storable.{HasKeys}
@@ -25,7 +25,7 @@ use Rattle.odb_system.specs.Open.{IsOpen}
 use Rattle.odb_system.specs.Held.{Held, IsHeld, without_place, session_at, reply_of, sealing_reply, StaysBook, ComesTo, CarriesOut, HeldSeals, HeldCommits, HeldDefinesBy, HeldDefines, sessions_behind}
 use Rattle.odb_system.specs.Sealed.{SealsRows, SealsBy, CanCarry, CarriesRows}
 use Rattle.odb_system.specs.Defining.{IsRefusedBy}
-use Rattle.odb_system.proofs.Behind.{held_seals, first_sealed}
+use Rattle.odb_system.proofs.Behind.{held_seals, first_sealed, few_sealed}
 
 abbrev is_memory : Reply → Bool
 is_memory Memory = true
@@ -164,3 +164,14 @@ first_carried (Ok (ready.Sealing entry image)) reply old new rows after before n
 first_carried (Ok (ready.Sealing entry image)) reply old new rows after before now (inr step) first = first_sealed entry image step.0 old new rows after before now step.2 first
 first_carried (Ok (ready.Ended number)) reply old new rows after before now step first = ap (λ (b : Parts). first_held b.transdb.header) step.1 ∙ first
 first_carried (Err error) reply old new rows after before now step first = ap (λ (b : Parts). first_held b.transdb.header) step.1 ∙ first
+
+-- nor has the history more entries than it may have
+pub few_left : (ready : Result Ready CommitError) (book mid : Parts) → IsLeft ready book mid → count book ≤ most_entries → count mid ≤ most_entries
+few_left ready book mid left few = subst (λ (n : ℕ). n ≤ most_entries) (sym (count_left ready book mid left)) few
+
+pub few_carried : (ready : Result Ready CommitError) (reply : Reply) (old new : Parts) (rows after : Committed) (before now : World) → CanCarry old ready → IsAligned new → CarriesRows ready reply old new rows after before now
+    → count old ≤ most_entries → count new ≤ most_entries
+few_carried (Ok (ready.Sealing entry image)) reply old new rows after before now can aligned (inl step) few = subst (λ (b : Parts). count b ≤ most_entries) (sym step.1) few
+few_carried (Ok (ready.Sealing entry image)) reply old new rows after before now can aligned (inr step) few = few_sealed entry image step.0 old new rows after before now can.0 can.1 aligned step.2
+few_carried (Ok (ready.Ended number)) reply old new rows after before now can aligned step few = subst (λ (b : Parts). count b ≤ most_entries) (sym step.1) few
+few_carried (Err error) reply old new rows after before now can aligned step few = subst (λ (b : Parts). count b ≤ most_entries) (sym step.1) few

@@ -11,7 +11,7 @@ use Rattle.odb_model.specs.declared.entry.Entry.{Entry}
 use Rattle.odb_model.specs.declared.event.Event.TheVariants.{Session as OfSession}
 use Rattle.odb_model.specs.declared.reply.Reply.{Reply}
 use Rattle.odb_model.specs.declared.outcome.Outcome.{Outcome}
-use Rattle.odb_model.specs.declared.reply.Reply.TheVariants.{Okay, Committed, InDoubt, Halted, NotYet, NoTransaction, InTransaction, Fault, Memory}
+use Rattle.odb_model.specs.declared.reply.Reply.TheVariants.{Okay, Committed, InDoubt, Halted, NotYet, NoTransaction, InTransaction, Fault, Turned, Memory}
 use Rattle.odb_model.specs.declared.statement.Statement.{Statement}
 use Rattle.odb_model.specs.declared.statement.Statement.TheVariants.{Start, Commit, Select, Insert, Rollback, Update, Delete, CreateDatabank, CreateTable, DropTable, CreateShadow, ShadowOnline, ShadowOffline, ShadowMaster, DropShadow, CreateBackup, BackupReady, DropBackup, Restore}
 use Rattle.odb_model.specs.State.{State, after_writes, replay, IsHistory}
@@ -21,14 +21,16 @@ use Rattle.odb_model.specs.Transaction.{Executed, meaning_over, open_meaning, re
 use Rattle.odb_model.specs.Script.{IsSession}
 use Rattle.odb_model.specs.Definitions.{Planned, Refused, Plans, planned}
 use Rattle.odb_model.specs.Session.{Session, Idle, Working}
-use Rattle.odb_model.specs.Book.{Book, Seen, Verdict, verdict, next_entry, Seals, Decides, DefinesBy, Defines, ends_transaction}
-use Rattle.odb_model.specs.Book as book
-use Rattle.odb_model.specs.Machine.{Machine, first_machine, with_session, book_of, with_book, behind, writes_made, executed_now, Starts, Executes, Commits, RollsBack, DefinesIn, StatementStep, Step}
-use Rattle.odb_model.specs.Serial.{SessionAnsweredFromSnapshots, AnsweredFromSnapshots}
+use Rattle.odb_machine.specs.Book.{Book, Seen, Verdict, verdict, next_entry, Seals, Decides, DefinesBy, Defines, ends_transaction}
+use Rattle.odb_machine.specs.Book as book
+use Rattle.odb_machine.specs.Machine.{Machine, first_machine, with_session, book_of, with_book, behind, writes_made, executed_now, Starts, Executes, Commits, RollsBack, DefinesIn, StatementStep, Step}
+use Rattle.odb_model.specs.Serial.{SessionAnsweredFromSnapshots}
+use Rattle.odb_machine.specs.Answered.{AnsweredFromSnapshots}
 use Rattle.odb_model.proofs.Meant.{is_meant}
 use Rattle.odb_model.proofs.Refusals.{is_refusal, not_refused}
-use Rattle.odb_model.proofs.Runs.{Grows, decides_grow, defines_grow, answered_first, answered_step, not_meant}
-use Rattle.odb_model.proofs.Runs as model_runs
+use Rattle.odb_model.proofs.Longer.{not_meant}
+use Rattle.odb_machine.proofs.Runs.{Grows, decides_grow, defines_grow, answered_first, answered_step}
+use Rattle.odb_machine.proofs.Runs as model_runs
 use Rattle.odb_transdb.specs.declared.header.Header.{Header}
 use Rattle.odb_transdb.specs.Standing.{Db}
 use Rattle.odb_rowsource.specs.Intentions.{laid_over}
@@ -95,6 +97,7 @@ pub record Goes (m : Machine) (s : ℕ) (st : Statement) (reply : Reply) (held a
   pub step : Step m (OfSession s st) (told_by reply) reply next
   pub stands : StandsFor after next
   pub format : next.format ≡ m.format
+  pub turn : next.may_turn ≡ m.may_turn
   pub effect : Effect held (book_of m) reply after (book_of next) old new
 
 -- no verdict is answered by MEMORY, nor a definition
@@ -127,6 +130,7 @@ unfolding is_meant is_plain
 meant_plain (Committed k) is = cc
 meant_plain (Fault f) is = cc
 meant_plain (InDoubt k) is = cc
+meant_plain (Turned side first) is = cc
 meant_plain reply is = refl
 
 meaning_plain : (reply : Reply) (st : Statement) (s : State) (t : Kept) (format : ℕ) → reply ≡ (meaning st (laid_over s t.own) (keys_written t.own) format).reply → is_plain reply ≡ true
@@ -142,6 +146,7 @@ unfolding is_refusal is_plain
 refusal_plain (Committed k) is = cc
 refusal_plain (Fault f) is = cc
 refusal_plain (InDoubt k) is = cc
+refusal_plain (Turned side first) is = cc
 refusal_plain reply is = refl
 
 refused_plain : (st : Statement) (s : State) (why : Reply) → planned st s ≡ Refused why → is_plain why ≡ true
@@ -150,6 +155,11 @@ refused_plain st s why is = refusal_plain why (by (is_refusal why) refl)
     by : (c : Bool) → is_refusal why ≡ c → is_refusal why ≡ true
     by true same = same
     by false same = absurd (not_refused st s why same is)
+
+-- the pair of a system behind a step is settled, where no entry is in doubt and no turn may have been
+-- broken off
+abbrev pub IsUpright : Machine → Held → Type 0
+IsUpright m after = after.book.halted ≡ None → m.may_turn ≡ false → after.book.transdb.pair.settled ≡ true
 
 module _ (m : Machine) (s : ℕ) (in_range : IsSession s) (held : Held) (stands : StandsFor held m) where
   -- the machine goes on to the one with this session
@@ -160,6 +170,7 @@ module _ (m : Machine) (s : ℕ) (in_range : IsSession s) (held : Held) (stands 
         since = stands.since;
         book = stands.book;
         rows = stands.rows;
+        settled = stands.settled;
         format = stands.format;
         count = length-set held.sessions (s - 1) x ∙ stands.count;
         each = shows_with stands.since held.sessions m s x t stands.count in_range stands.each here;
@@ -170,6 +181,7 @@ module _ (m : Machine) (s : ℕ) (in_range : IsSession s) (held : Held) (stands 
         step = step;
         stands = subst (λ (h : Held). StandsFor h (with_session m s t)) (sym comes.0) there;
         format = refl;
+        turn = refl;
         effect = still comes.1 plain refl;
       }
 
@@ -181,6 +193,7 @@ module _ (m : Machine) (s : ℕ) (in_range : IsSession s) (held : Held) (stands 
     step = step;
     stands = subst (λ (h : Held). StandsFor h m) (sym comes.0) stands;
     format = refl;
+    turn = refl;
     effect = still comes.1 plain refl;
   }
 
@@ -269,7 +282,10 @@ module _ (m : Machine) (s : ℕ) (in_range : IsSession s) (held : Held) (stands 
       subst (λ (h : List Entry). Shows stands.since h m.format q x o) (sym same) (shows_longer stands.since m.history (next_entry (book_of m) by writes ∷ []) m.format q x o f here)
 
   -- the machine with this book, and perhaps with this session idle
-  module _ (after : Held) (b : Book) (more : Grows (book_of m) b) (kept : Keeps stands.since held after b) where
+  module _ (after : Held) (b : Book) (more : Grows (book_of m) b) (kept : Keeps stands.since held after b) (upright : IsUpright m after) where
+    settled_behind : b.in_doubt ≡ None → m.may_turn ≡ false → after.book.transdb.pair.settled ≡ true
+    settled_behind none whole = upright (kept.book.halted ∙ ap (λ (o : Option Entry). option_map (λ (x : Entry). x.number) o) none) whole
+
     format_same : m.format ≡ format_in after
     format_same = stands.format ∙ ap (λ (h : Header). h.format) (sym kept.header)
 
@@ -278,6 +294,7 @@ module _ (m : Machine) (s : ℕ) (in_range : IsSession s) (held : Held) (stands 
       since = stands.since;
       book = kept.book;
       rows = kept.rows;
+      settled = settled_behind;
       format = format_same;
       count = ap length sessions ∙ stands.count;
       each = λ q is.
@@ -291,6 +308,7 @@ module _ (m : Machine) (s : ℕ) (in_range : IsSession s) (held : Held) (stands 
       since = stands.since;
       book = kept.book;
       rows = kept.rows;
+      settled = settled_behind;
       format = format_same;
       count = ap length sessions ∙ length-set held.sessions (s - 1) None ∙ stands.count;
       each = λ q is.
@@ -312,10 +330,13 @@ module _ (m : Machine) (s : ℕ) (in_range : IsSession s) (held : Held) (stands 
   format_behind : (reply : Reply) (b : Book) → (behind m s reply b).format ≡ m.format
   format_behind reply b = elim (ends_transaction reply) as (λ (c : Bool). (cond c (with_session (with_book m b) s Idle) (with_book m b)).format ≡ m.format) [ true ↦ refl | false ↦ refl ]
 
+  turn_behind : (reply : Reply) (b : Book) → (behind m s reply b).may_turn ≡ m.may_turn
+  turn_behind reply b = elim (ends_transaction reply) as (λ (c : Bool). (cond c (with_session (with_book m b) s Idle) (with_book m b)).may_turn ≡ m.may_turn) [ true ↦ refl | false ↦ refl ]
+
   decides : (kept : Kept) (t : List Executed) (reply : Reply) (after : Held) (old new : World) → m.sessions s ≡ Working t → kept.session ≡ s → StandsForTransaction kept m.history t m.format
       → All (IsLate stands.since) kept.reads → CarriesOut held (prepared held.book kept) reply after old new
-      → after.sessions ≡ cond (ends_transaction reply) (slice_set held.sessions (s - 1) None) held.sessions → Goes m s Commit reply held after old new
-  decides kept t reply after old new e of_session open_stands late carried sessions =
+      → after.sessions ≡ cond (ends_transaction reply) (slice_set held.sessions (s - 1) None) held.sessions → IsUpright m after → Goes m s Commit reply held after old new
+  decides kept t reply after old new e of_session open_stands late carried sessions upright =
       let v : Verdict = verdict (book_of m) t m.format in
       let is : prepared held.book kept ≡ preparation_of (book_of m) s v =
       prepared_same stands.since held.book (book_of m) stands.book kept t m.format open_stands late ∙ ap (λ (n : ℕ). preparation_of (book_of m) n v) of_session in
@@ -328,20 +349,21 @@ module _ (m : Machine) (s : ℕ) (in_range : IsSession s) (held : Held) (stands 
       record {
         next = next;
         step = step;
-        stands = stands_behind after b more went.kept (ends_transaction reply) sessions (answered_step m s Commit (told_by reply) reply next stands.answered step);
+        stands = stands_behind after b more went.kept upright (ends_transaction reply) sessions (answered_step m s Commit (told_by reply) reply next stands.answered step);
         format = format_behind reply b;
+        turn = turn_behind reply b;
         effect = subst (λ (x : Book). Effect held (book_of m) reply after x old new) (sym (book_behind reply b)) went.effect;
       }
 
   commits : (x : Option Kept) (o : Session) (reply : Reply) (after : Held) (old new : World) → m.sessions s ≡ o → Shows stands.since m.history m.format s x o → HeldCommits held (s - 1) x reply after old new
-      → Goes m s Commit reply held after old new
+      → IsUpright m after → Goes m s Commit reply held after old new
   unfolding is_plain
-  commits x o Memory after old new e here step = goes_nowhere Commit Memory after old new refl refl step
-  commits None Idle NoTransaction after old new e here step = goes_nowhere Commit NoTransaction after old new (subst (λ (o : Session). Commits m s (told_by NoTransaction) o NoTransaction m) (sym e) refl) refl step
-  commits None (Working t) reply after old new e here step = absurd here
-  commits (Some kept) Idle reply after old new e here step = absurd here
-  commits None Idle reply after old new e here step = absurd step
-  commits (Some kept) (Working t) reply after old new e here step = decides kept t reply after old new e here.0 here.1 here.2 step.0 step.1
+  commits x o Memory after old new e here step upright = goes_nowhere Commit Memory after old new refl refl step
+  commits None Idle NoTransaction after old new e here step upright = goes_nowhere Commit NoTransaction after old new (subst (λ (o : Session). Commits m s (told_by NoTransaction) o NoTransaction m) (sym e) refl) refl step
+  commits None (Working t) reply after old new e here step upright = absurd here
+  commits (Some kept) Idle reply after old new e here step upright = absurd here
+  commits None Idle reply after old new e here step upright = absurd step
+  commits (Some kept) (Working t) reply after old new e here step upright = decides kept t reply after old new e here.0 here.1 here.2 step.0 step.1 upright
 
   -- a definition of an idle session
   defines_by : (st : Statement) (d : Option Entry) (p : Planned) (reply : Reply) (after : Held) (old new : World) → m.in_doubt ≡ d → planned st (replay m.history) ≡ p
@@ -358,8 +380,8 @@ module _ (m : Machine) (s : ℕ) (in_range : IsSession s) (held : Held) (stands 
       carries stands.since held (book_of m) stands.book stands.rows s ws reply after old new (subst (λ (p : Preparation). CarriesOut held p reply after old new) is step)
 
   defines_idle : (st : Statement) (reply : Reply) (after : Held) (old new : World) → ((n : Machine) → DefinesIn m s (told_by reply) st (m.sessions s) reply n → StatementStep m s (told_by reply) st reply n)
-      → m.sessions s ≡ Idle → HeldDefinesBy held.book.halted held (s - 1) (planned st held.rows) reply after old new × (after.sessions ≡ held.sessions) → Goes m s st reply held after old new
-  defines_idle st reply after old new runs e step =
+      → m.sessions s ≡ Idle → HeldDefinesBy held.book.halted held (s - 1) (planned st held.rows) reply after old new × (after.sessions ≡ held.sessions) → IsUpright m after → Goes m s st reply held after old new
+  defines_idle st reply after old new runs e step upright =
       let by : HeldDefinesBy (option_map (λ (x : Entry). x.number) m.in_doubt) held (s - 1) (planned st (replay m.history)) reply after old new =
       subst (λ (rows : State). HeldDefinesBy (option_map (λ (x : Entry). x.number) m.in_doubt) held (s - 1) (planned st rows) reply after old new) stands.rows
       (subst (λ (d : Option ℕ). HeldDefinesBy d held (s - 1) (planned st held.rows) reply after old new) stands.book.halted step.0) in
@@ -373,54 +395,55 @@ module _ (m : Machine) (s : ℕ) (in_range : IsSession s) (held : Held) (stands 
       record {
         next = next;
         step = taken;
-        stands = stands_on after b more went.kept step.1 (answered_step m s st (told_by reply) reply next stands.answered taken);
+        stands = stands_on after b more went.kept upright step.1 (answered_step m s st (told_by reply) reply next stands.answered taken);
         format = refl;
+        turn = refl;
         effect = went.effect;
       }
 
   defines : (st : Statement) (x : Option Kept) (o : Session) (reply : Reply) (after : Held) (old new : World)
       → ((r : Reply) (n : Machine) → DefinesIn m s (told_by r) st (m.sessions s) r n → StatementStep m s (told_by r) st r n)
-      → m.sessions s ≡ o → Shows stands.since m.history m.format s x o → HeldDefines held (s - 1) st x reply after old new → Goes m s st reply held after old new
+      → m.sessions s ≡ o → Shows stands.since m.history m.format s x o → HeldDefines held (s - 1) st x reply after old new → IsUpright m after → Goes m s st reply held after old new
   unfolding is_plain
-  defines st x o Memory after old new runs e here step = goes_nowhere st Memory after old new (runs Memory m refl) refl step
-  defines st (Some kept) (Working t) InTransaction after old new runs e here step =
+  defines st x o Memory after old new runs e here step upright = goes_nowhere st Memory after old new (runs Memory m refl) refl step
+  defines st (Some kept) (Working t) InTransaction after old new runs e here step upright =
       goes_nowhere st InTransaction after old new (runs InTransaction m (subst (λ (o : Session). DefinesIn m s (told_by InTransaction) st o InTransaction m) (sym e) refl)) refl step
-  defines st None (Working t) reply after old new runs e here step = absurd here
-  defines st (Some kept) Idle reply after old new runs e here step = absurd here
-  defines st (Some kept) (Working t) reply after old new runs e here step = absurd step
-  defines st None Idle reply after old new runs e here step = defines_idle st reply after old new (λ n x. runs reply n x) e step
+  defines st None (Working t) reply after old new runs e here step upright = absurd here
+  defines st (Some kept) Idle reply after old new runs e here step upright = absurd here
+  defines st (Some kept) (Working t) reply after old new runs e here step upright = absurd step
+  defines st None Idle reply after old new runs e here step upright = defines_idle st reply after old new (λ n x. runs reply n x) e step upright
 
   not_yet : (st : Statement) (reply : Reply) (after : Held) (old new : World) → ((n : Machine) → n ≡ m → StatementStep m s (told_by NotYet) st NotYet n) → (reply ≡ NotYet) × ComesTo held after old new
       → Goes m s st reply held after old new
   unfolding is_plain
   not_yet st reply after old new refuses step = subst (λ (r : Reply). Goes m s st r held after old new) (sym step.0) (goes_nowhere st NotYet after old new (refuses m refl) refl step.1)
 
-  pub goes : (st : Statement) (reply : Reply) (after : Held) (old new : World) → HeldRuns held (s - 1) st reply after old new → Goes m s st reply held after old new
-  goes Start reply after old new step = starts (session_at held (s - 1)) (m.sessions s) reply after old new refl (stands.each s in_range) step
-  goes Commit reply after old new step = commits (session_at held (s - 1)) (m.sessions s) reply after old new refl (stands.each s in_range) step
-  goes Rollback reply after old new step = rolls_back (session_at held (s - 1)) (m.sessions s) reply after old new refl (stands.each s in_range) step
-  goes (Select what table f) reply after old new step =
+  pub goes : (st : Statement) (reply : Reply) (after : Held) (old new : World) → HeldRuns held (s - 1) st reply after old new → IsUpright m after → Goes m s st reply held after old new
+  goes Start reply after old new step upright = starts (session_at held (s - 1)) (m.sessions s) reply after old new refl (stands.each s in_range) step
+  goes Commit reply after old new step upright = commits (session_at held (s - 1)) (m.sessions s) reply after old new refl (stands.each s in_range) step upright
+  goes Rollback reply after old new step upright = rolls_back (session_at held (s - 1)) (m.sessions s) reply after old new refl (stands.each s in_range) step
+  goes (Select what table f) reply after old new step upright =
       executes (Select what table f) (session_at held (s - 1)) (m.sessions s) reply after old new (λ r n x. x) (stands.each s in_range) step
-  goes (Insert table tuples) reply after old new step =
+  goes (Insert table tuples) reply after old new step upright =
       executes (Insert table tuples) (session_at held (s - 1)) (m.sessions s) reply after old new (λ r n x. x) (stands.each s in_range) step
-  goes (Update table sets f) reply after old new step =
+  goes (Update table sets f) reply after old new step upright =
       executes (Update table sets f) (session_at held (s - 1)) (m.sessions s) reply after old new (λ r n x. x) (stands.each s in_range) step
-  goes (Delete table f) reply after old new step =
+  goes (Delete table f) reply after old new step upright =
       executes (Delete table f) (session_at held (s - 1)) (m.sessions s) reply after old new (λ r n x. x) (stands.each s in_range) step
-  goes (CreateTable name columns key bank) reply after old new step =
-      defines (CreateTable name columns key bank) (session_at held (s - 1)) (m.sessions s) reply after old new (λ r n x. x) refl (stands.each s in_range) step
-  goes (DropTable name) reply after old new step =
-      defines (DropTable name) (session_at held (s - 1)) (m.sessions s) reply after old new (λ r n x. x) refl (stands.each s in_range) step
-  goes (CreateDatabank name) reply after old new step = not_yet (CreateDatabank name) reply after old new (λ n is. is) step
-  goes (CreateShadow name bank) reply after old new step = not_yet (CreateShadow name bank) reply after old new (λ n is. is) step
-  goes (ShadowOnline name) reply after old new step = not_yet (ShadowOnline name) reply after old new (λ n is. is) step
-  goes (ShadowOffline name) reply after old new step = not_yet (ShadowOffline name) reply after old new (λ n is. is) step
-  goes (ShadowMaster name) reply after old new step = not_yet (ShadowMaster name) reply after old new (λ n is. is) step
-  goes (DropShadow name) reply after old new step = not_yet (DropShadow name) reply after old new (λ n is. is) step
-  goes (CreateBackup name bank) reply after old new step = not_yet (CreateBackup name bank) reply after old new (λ n is. is) step
-  goes (BackupReady name) reply after old new step = not_yet (BackupReady name) reply after old new (λ n is. is) step
-  goes (DropBackup name) reply after old new step = not_yet (DropBackup name) reply after old new (λ n is. is) step
-  goes (Restore bank name) reply after old new step = not_yet (Restore bank name) reply after old new (λ n is. is) step
+  goes (CreateTable name columns key bank) reply after old new step upright =
+      defines (CreateTable name columns key bank) (session_at held (s - 1)) (m.sessions s) reply after old new (λ r n x. x) refl (stands.each s in_range) step upright
+  goes (DropTable name) reply after old new step upright =
+      defines (DropTable name) (session_at held (s - 1)) (m.sessions s) reply after old new (λ r n x. x) refl (stands.each s in_range) step upright
+  goes (CreateDatabank name) reply after old new step upright = not_yet (CreateDatabank name) reply after old new (λ n is. is) step
+  goes (CreateShadow name bank) reply after old new step upright = not_yet (CreateShadow name bank) reply after old new (λ n is. is) step
+  goes (ShadowOnline name) reply after old new step upright = not_yet (ShadowOnline name) reply after old new (λ n is. is) step
+  goes (ShadowOffline name) reply after old new step upright = not_yet (ShadowOffline name) reply after old new (λ n is. is) step
+  goes (ShadowMaster name) reply after old new step upright = not_yet (ShadowMaster name) reply after old new (λ n is. is) step
+  goes (DropShadow name) reply after old new step upright = not_yet (DropShadow name) reply after old new (λ n is. is) step
+  goes (CreateBackup name bank) reply after old new step upright = not_yet (CreateBackup name bank) reply after old new (λ n is. is) step
+  goes (BackupReady name) reply after old new step upright = not_yet (BackupReady name) reply after old new (λ n is. is) step
+  goes (DropBackup name) reply after old new step upright = not_yet (DropBackup name) reply after old new (λ n is. is) step
+  goes (Restore bank name) reply after old new step upright = not_yet (Restore bank name) reply after old new (λ n is. is) step
 
 -- no statement means MEMORY
 pub executed : (held : Held) (at : ℕ) (st : Statement) (t : Kept) (reply : Reply) (after : Held) (w : World) → reply ≡ (meaning_in held st t).reply
@@ -439,12 +462,13 @@ fills : (db : Db) (h : List Entry) → Begins db h → Fills db h
 fills db h begins = record { next = begins.next; filled = begins.filled; placed = begins.placed }
 
 -- a system that begins with a history
-pub stands_first : (h : List Entry) (xs : List (Option Kept)) (db : Db) (rows : State) → Begins db h → rows ≡ replay h → xs ≡ replicate 64 none_open
+pub stands_first : (h : List Entry) (xs : List (Option Kept)) (db : Db) (rows : State) → Begins db h → db.pair.settled ≡ true → rows ≡ replay h → xs ≡ replicate 64 none_open
     → StandsFor (record { book = record { transdb = db; window = record { start = length h; entries = []; is_reserved = false }; halted = None }; sessions = xs; rows = rows }) (first_machine db.header.format (sides_of db.header) h)
-stands_first h xs db rows begins are same = record {
+stands_first h xs db rows begins whole are same = record {
   since = length h;
   book = begins_book db h false begins.numbered (fills db h begins);
   rows = are;
+  settled = λ none unturned. whole;
   format = refl;
   count = rw same refl;
   each = λ s is.

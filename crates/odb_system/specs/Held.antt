@@ -1,5 +1,5 @@
 -- What a system holds, how its calls change it, and which machine it stands for.
-use Rattle.std.specs.Prelude.{◌≡◌, ℕ, ◌+◌, ◌-◌, ◌≤◌, ◌==◌, Bool, true, false, drop, List, [], length, Option, Some, None, Result, Ok, Err, slice_get, slice_set, unwrap_or, refl, if◌then◌else◌}
+use Rattle.std.specs.Prelude.{◌≡◌, ℕ, ◌+◌, ◌-◌, ◌≤◌, ◌==◌, Bool, true, false, drop, List, [], length, Option, Some, None, Result, Ok, Err, slice_get, slice_set, unwrap_or, refl, ⊤, if◌then◌else◌}
 use Rattle.std.specs.List.{All}
 use Rattle.std.specs.Coded.{Coded, code_by, coded×, coded_list, coded_option}
 use Rattle.std.specs.FinMap.{code}
@@ -12,28 +12,33 @@ use Rattle.odb_model.specs.declared.numbers.TheConstants.{SESSIONS}
 use Rattle.odb_model.specs.declared.entry.Entry.{Entry}
 use Rattle.odb_model.specs.declared.event.Event.{Event}
 use Rattle.odb_model.specs.declared.event.Event.TheVariants.{Session as OfSession, Control}
+use Rattle.odb_model.specs.declared.control.Control.{Control as ControlLine}
+use Rattle.odb_model.specs.declared.control.Control.TheVariants as line
 use Rattle.odb_model.specs.declared.reply.Reply.{Reply}
-use Rattle.odb_model.specs.declared.reply.Reply.TheVariants.{Okay, Committed, Ended, InDoubt, Halted, Aged, Conflict, HistoryFull, Full, NoTransaction, InTransaction, Fault, Memory, NotYet}
+use Rattle.odb_model.specs.declared.reply.Reply.TheVariants.{Okay, Committed, Ended, InDoubt, Halted, Aged, Conflict, HistoryFull, Full, NoTransaction, InTransaction, Fault, Turned, NotClean, Memory, NotYet}
 use Rattle.odb_model.specs.declared.statement.Statement.{Statement}
 use Rattle.odb_model.specs.declared.statement.Statement.TheVariants.{Start, Commit, Rollback, Select, Insert, Update, Delete, CreateTable, DropTable}
 use Rattle.odb_model.specs.State.{State, IsHistory, after_writes, replay}
 use Rattle.odb_model.specs.Meaning.{Meaning}
 use Rattle.odb_model.specs.Definitions.{IsSpelled, Planned, Refused, Plans, planned}
 use Rattle.odb_model.specs.Script.{IsSession}
-use Rattle.odb_model.specs.Readings.{nothing_told}
-use Rattle.odb_model.specs.Book.{Seen, ends_transaction}
-use Rattle.odb_model.specs.Machine.{Machine, book_of, Step}
+use Rattle.odb_machine.specs.Readings.{nothing_told}
+use Rattle.odb_machine.specs.Book.{Seen, ends_transaction, most_entries}
+use Rattle.odb_machine.specs.Machine.{Machine, book_of, Step}
 use Rattle.odb_model.specs.Storable.{HasKeys}
 use Rattle.odb_model.specs.Width.{records_width}
-use Rattle.odb_model.specs.Serial.{AnsweredFromSnapshots}
+use Rattle.odb_machine.specs.Answered.{AnsweredFromSnapshots}
 use Rattle.odb_codec.specs.Image.{entry_image}
+use Rattle.odb_transdb.specs.declared.error.TransdbError.{TransdbError}
+use Rattle.odb_transdb.specs.declared.error.TransdbError.TheVariants as of_log
 use Rattle.odb_transdb.specs.Header.{first_held, active_first}
 use Rattle.odb_transdb.specs.Standing.{Db, IsPlaced}
 use Rattle.odb_txn.specs.Transaction.{Kept, nothing_kept}
 use Rattle.odb_commit.specs.declared.error.CommitError.{CommitError}
 use Rattle.odb_commit.specs.declared.error.CommitError.TheVariants as e
 use Rattle.odb_commit.specs.Parts.{Parts, count, IsAligned, Preparation, Refuses, Ends, ToSeal, prepared, entry_after, sealing_of}
-use Rattle.odb_commit.specs.Sealing.{IsSealed, Forces}
+use Rattle.odb_commit.specs.Sealing.{IsSealed, SealsLog}
+use Rattle.odb_commit.specs.Turned.{TurnsLog}
 use Rattle.odb_commit.specs.Standing.{StandsFor as BookStandsFor}
 use Rattle.odb_system.specs.Open.{meaning_on, grown_on, IsOpen, Shows}
 
@@ -70,6 +75,7 @@ pub record Begins (db : Db) (h : List Entry) : Type 0 where
 
 -- what a system holds meets this always
 pub record IsHeld (held : Held) : Type 0 where
+  pub few : count held.book ≤ most_entries
   pub count : length held.sessions ≡ SESSIONS
   pub aligned : IsAligned held.book
   pub first : first_held held.book.transdb.header ≡ 1
@@ -149,14 +155,15 @@ pub record TakesRecords (b : Parts) : Type 0 where
   pub usable : b.transdb.active.in_doubt ≡ false
 
 -- An entry was sealed with this result: its record was forced, in a log that takes records, and the
--- book and the rows have it, or not. The sessions are told of beside this
+-- book and the rows have it, or not. The sessions are told of beside this. Where the pair is unsettled
+-- it is settled first
 pub record HeldSeals
     (held : Held) (entry : Entry) (result : Result ℕ CommitError) (after : Held) (old new : World) :
     Type 0 where
   pub log : TakesRecords held.book
   pub sealed : IsSealed entry result held.book after.book
-  pub forces :
-      Forces entry (entry_image entry) result held.book.transdb after.book.transdb old new
+  pub seals :
+      SealsLog entry (entry_image entry) result held.book.transdb after.book.transdb old new
   pub rows : after.rows ≡ rows_sealed result held.rows entry
 
 -- all but the sessions is as before, and no call of the host was made
@@ -232,13 +239,52 @@ HeldRuns held at (DropTable name) reply after old new =
     HeldDefines held at (DropTable name) (session_at held at) reply after old new
 HeldRuns held at other reply after old new = (reply ≡ NotYet) × ComesTo held after old new
 
+-- A log that takes records was turned with this result, and nothing else changed
+pub record TurnsHeld
+    (held : Held) (result : Result ⊤ TransdbError) (after : Held) (old new : World) :
+    Type 0 where
+  pub takes : TakesRecords held.book
+  pub log : TurnsLog result held.book.transdb after.book.transdb old new
+  pub rest : after ≡ record held {
+    book = record held.book { transdb = after.book.transdb };
+  }
+
+-- what TURN is answered, where this side is active behind it, and this is the next number
+abbrev pub turn_reply : ℕ → ℕ → Result ⊤ TransdbError → Reply
+turn_reply side next (Ok done) = Turned side next
+turn_reply side next (Err of_log.NotClean) = NotClean
+turn_reply side next (Err error) = Fault 0
+
+abbrev pub turn_told : Held → Result ⊤ TransdbError → Reply
+turn_told after result =
+    turn_reply after.book.transdb.header.active (count after.book + 1) result
+
+-- TURN, where this entry is in doubt
+abbrev pub HeldTurnsBy : Option ℕ → Held → Reply → Held → World → World → Type 0
+HeldTurnsBy (Some number) held reply after old new =
+    (reply ≡ Halted number) × ComesTo held after old new
+HeldTurnsBy None held reply after old new =
+    (result : Result ⊤ TransdbError) × (reply ≡ turn_told after result)
+    × TurnsHeld held result after old new
+
+-- TURN
+abbrev pub HeldTurns : Held → Reply → Held → World → World → Type 0
+HeldTurns held reply after old new = HeldTurnsBy held.book.halted held reply after old new
+
+-- a control line, of which TURN alone is built
+abbrev pub HeldControls : Held → ControlLine → Reply → Held → World → World → Type 0
+HeldControls held line.Turn reply after old new = HeldTurns held reply after old new
+HeldControls held other reply after old new = (reply ≡ NotYet) × ComesTo held after old new
+
 -- The system stands for the machine. Its book does, with a window that was begun where the history had
 -- `since` entries; the rows are those that the history makes; of each session there is what stands for
--- its transaction
+-- its transaction. Unless a turn may have been broken off, the pair of TRANSDB is settled
 pub record StandsFor (held : Held) (m : Machine) : Type 0 where
   pub since : ℕ
   pub book : BookStandsFor since held.book (book_of m)
   pub rows : held.rows ≡ replay m.history
+  pub settled : m.in_doubt ≡ None → m.may_turn ≡ false
+      → held.book.transdb.pair.settled ≡ true
   pub format : m.format ≡ format_in held
   pub count : length held.sessions ≡ SESSIONS
   pub each : (s : ℕ) → IsSession s
@@ -266,8 +312,8 @@ abbrev pub is_in_doubt : Reply → Bool
 is_in_doubt (InDoubt k) = true
 is_in_doubt reply = false
 
--- What a reply tells of the step: a fault before the record's gate was written, or from then on. No
--- line is built yet whose step reads a file
+-- What a reply tells of the step: a fault before the record's gate was written, where a record is
+-- written at all, or from then on. No line is built yet whose step reads a file
 abbrev pub told_by : Reply → Seen
 told_by reply = record {
   rose = tells_of_fault reply;

@@ -5,14 +5,14 @@ use Rattle.odb_model.specs.declared.entry.Entry.{Entry}
 use Rattle.odb_model.specs.declared.reply.Reply.{Reply}
 use Rattle.odb_model.specs.declared.reply.Reply.TheVariants.{Memory}
 use Rattle.odb_model.specs.declared.reply.Reply.TheVariants as told
-use Rattle.odb_model.specs.Book.{most_entries}
+use Rattle.odb_machine.specs.Book.{most_entries}
 use Rattle.odb_model.specs.Storable.{HasKeys}
 use Rattle.odb_keytable.specs.Committed.{Committed}
 use Rattle.odb_commit.specs.declared.error.CommitError.{CommitError}
 use Rattle.odb_commit.specs.declared.ready.Ready.{Ready}
 use Rattle.odb_commit.specs.declared.ready.Ready.TheVariants.{Ended, Sealing}
 use Rattle.odb_commit.specs.Parts.{Parts, count, CanSeal}
-use Rattle.odb_commit.specs.Sealing.{IsSealed, Forces}
+use Rattle.odb_commit.specs.Sealing.{IsSealed, SealsLog}
 use Rattle.odb_system.specs.Held.{rows_sealed, reply_of, sealing_reply}
 
 -- each row has a key, and of the history's entries no more wait to be folded in than there are
@@ -26,7 +26,7 @@ pub record SealsBy
     (rows after : Committed) (before now : World) :
     Type 0 where
   pub sealed : IsSealed entry result old new
-  pub forces : Forces entry image result old.transdb new.transdb before now
+  pub seals : SealsLog entry image result old.transdb new.transdb before now
   pub rows_are : after.state ≡ rows_sealed result rows.state entry
 
 -- memory was missing, and nothing has changed; or the entry was sealed, with the reply that tells so

@@ -1,10 +1,11 @@
 //! What the book and the catalog answer, as replies.
 ghost use Rattle.std.specs.Prelude.{◌≡◌};
-ghost use Rattle.odb_model.specs.Book.{ends_transaction};
-ghost use Rattle.odb_system.specs.Held.{reply_of};
+ghost use Rattle.odb_machine.specs.Book.{ends_transaction};
+ghost use Rattle.odb_system.specs.Held.{reply_of, turn_reply};
 
 use odb_commit::CommitError;
 use odb_model::Reply;
+use odb_transdb::TransdbError;
 
 /// The reply that tells why a commit isn't made, or isn't known to be.
 pub(crate) fn reply_of(error: CommitError) -> Reply
@@ -19,6 +20,26 @@ pub(crate) fn reply_of(error: CommitError) -> Reply
         CommitError::InDoubt { number } => Reply::InDoubt(number),
         CommitError::HistoryFull => Reply::HistoryFull,
         CommitError::NoMemory => Reply::Memory,
+    }
+}
+
+/// What TURN is answered, where this side takes the entries from this number on behind it.
+pub(crate) fn turn_reply(turned: Result<(), TransdbError>, side: u32, next: u64) -> Reply
+    ensures { result ≡ turn_reply side next turned }
+{
+    match turned {
+        Ok(()) => Reply::Turned { side, first: next },
+        Err(error) => match error {
+            TransdbError::NotClean => Reply::NotClean,
+            TransdbError::NoDatabase
+            | TransdbError::Damaged { .. }
+            | TransdbError::Full { .. }
+            | TransdbError::FaultBefore
+            | TransdbError::InDoubt { .. }
+            | TransdbError::Held { .. }
+            | TransdbError::Fault
+            | TransdbError::NoMemory => Reply::Fault(0),
+        },
     }
 }
 

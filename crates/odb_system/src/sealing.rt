@@ -1,8 +1,8 @@
 //! An entry that was prepared is sealed, and stands in the rows from then on.
 ghost use Rattle.std.specs.Prelude.{◌≡◌, ◌<◌};
 ghost use Rattle.odb_device.specs.World.{file_of};
-ghost use Rattle.odb_transdb.specs.Standing.{Stands};
-ghost use Rattle.odb_model.specs.Book.{most_entries};
+ghost use Rattle.odb_transdb.specs.Turning.{MayStand};
+ghost use Rattle.odb_machine.specs.Book.{most_entries};
 ghost use Rattle.odb_commit.specs.Parts.{IsAligned, CanSeal, count};
 ghost use Rattle.odb_system.specs.Sealed.{FitRows, SealsRows};
 
@@ -29,7 +29,7 @@ pub(crate) fn seal<S: Store>(
     image: Bytes,
 ) -> Reply
     requires ready { CanSeal book.old entry image }
-    requires stands { Stands book.old.transdb (file_of 0 (S.world store.old)) }
+    requires stands { MayStand book.old.transdb (file_of 0 (S.world store.old)) }
     requires few { count book.old < most_entries }
     requires fit { FitRows book.old rows.old }
     ensures sealed { SealsRows entry image result book.old book.new rows.old rows.new

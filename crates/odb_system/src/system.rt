@@ -1,5 +1,5 @@
 //! The machine: a book, the rows of its history, and the sessions; each statement is one step.
-ghost use Rattle.std.specs.Prelude.{◌≡◌, ◌<◌, ◌-◌, replicate, None, IfOk, IsTrue};
+ghost use Rattle.std.specs.Prelude.{◌≡◌, ◌<◌, ◌-◌, replicate, None, IfOk, IsTrue, true};
 ghost use Rattle.odb_device.specs.World.{World, file_of, present};
 ghost use Rattle.odb_model.specs.Definitions.{IsSpelled, is_definition};
 ghost use Rattle.odb_model.specs.Script.{IsSession};
@@ -9,17 +9,20 @@ use crate::SystemError;
 use crate::carrying::carry_out;
 use crate::defining::planned_writes;
 use crate::executing::run_statement;
-use crate::replies::ends_transaction;
+use crate::replies::{ends_transaction, turn_reply};
 use crate::taking::rows_after;
 use odb_commit::Book;
 use odb_device::Host;
 use odb_keytable::CommittedRows;
-use odb_model::{Entries, Event, Reply, SESSIONS, Statement};
+use odb_model::{Control, Entries, Event, Reply, SESSIONS, Statement};
 use odb_transdb::Transdb;
 use odb_txn::Transaction;
 use odb_validate::Window;
 use std::alloc::{AllocError, Global};
 use std::marker::Model;
+
+/// How many entries a history may have: 2^48.
+const MOST_ENTRIES: u64 = 281_474_976_710_656;
 
 /// The book, which judges and seals commits; the rows of its history; and for each session its open
 /// transaction.
@@ -59,24 +62,30 @@ impl Model for System {
 }
 
 impl System {
-    ghost use Rattle.odb_model.specs.Machine.{Machine, first_machine};
+    ghost use Rattle.odb_machine.specs.Machine.{Machine, first_machine};
     ghost use Rattle.odb_commit.specs.Standing.{sides_of};
-    ghost use Rattle.odb_system.specs.Held.{session_at, Begins, HeldStarts, HeldRollsBack, HeldExecutes, HeldCommits, HeldDefines, HeldRuns, StandsFor, IsAsked};
+    ghost use Rattle.odb_system.specs.Held.{session_at, Begins, HeldStarts, HeldRollsBack, HeldExecutes, HeldCommits, HeldDefines, HeldRuns, HeldTurns, HeldControls, StandsFor, IsAsked};
     ghost use Rattle.odb_system.specs.Durable.{IsDurable, ChangesLog};
     ghost use Rattle.odb_system.specs.Kept.{Rests, Stepped};
 
     /// The machine that begins with these entries, all that the log holds; all sessions are idle.
-    /// It makes no call of a store. The entries are gone over once, with a search in the rows for
+    /// It makes no call of a store, and finds the pair of the log settled. More than 2^48 entries are
+    /// refused for memory. The entries are gone over once, with a search in the rows for
     /// each of their writes, and none of them is kept: the window begins behind them, since no
     /// session has read yet.
     pub fn start(alloc: Global, transdb: Transdb, entries: Entries) -> Result<System, SystemError>
-        requires { Begins transdb entries }
+        requires begins { Begins transdb entries }
+        requires settled { transdb.pair.settled ≡ true }
         ensures stands { IfOk result
             (λ system. StandsFor system
             (first_machine transdb.header.format (sides_of transdb.header) entries)) }
         ensures log { IfOk result
             (λ system. (system.book.transdb ≡ transdb) × (system.book.halted ≡ None)) }
     {
+        let count = entries.len() as u64;
+        if count > MOST_ENTRIES {
+            return Err(SystemError::NoMemory);
+        }
         let rows = rows_after(alloc, entries)?;
         let sessions = idle_sessions(alloc)?;
         let window = Window::new(alloc, transdb.last());
@@ -87,12 +96,14 @@ impl System {
         })
     }
 
-    /// One step of the machine: the reply to a statement of a session, or to a step of upkeep, none
-    /// of which is built. Want of memory is the reply `Memory`.
+    /// One step of the machine: the reply to a statement of a session, or to a control line, of which
+    /// TURN alone is built. Want of memory is the reply `Memory`.
     ///
     /// A COMMIT that leaves writes, a CREATE TABLE and a DROP TABLE force a record: two syncs and three
-    /// writes of file 0 where the log's tail is clear. At each moment a crash leaves the history
-    /// before the step, or the one after it. No other statement makes a call of the host.
+    /// writes of file 0 where the log's tail is clear; behind a TURN that was answered FAULT the pair of
+    /// file 0 is settled first, in three writes and three syncs at most. TURN puts the pair, in as many.
+    /// At each moment a crash leaves the history before the step, or the one after it. No other
+    /// statement makes a call of the host.
     ///
     /// A statement on rows costs what [`odb_exec::execute`] costs over an ordered map and the
     /// transaction's own writes: where its WHERE fixes the key one search of each, and for a range
@@ -112,8 +123,34 @@ impl System {
     {
         match event {
             Event::Session { session, statement } => self.ask(alloc, host, *session, statement),
-            Event::Control(_) => Reply::NotYet,
+            Event::Control(line) => self.control(host, *line),
         }
+    }
+
+    /// A control line, of which TURN alone is built.
+    fn control<H: Host>(&mut self, host: &mut H, line: Control) -> Reply
+        requires durable { IsDurable self.old (file_of 0 (H.world host.old)) }
+        ensures controls { HeldControls self.old line result self.new
+            (H.world host.old) (H.world host.new) }
+    {
+        match line {
+            Control::Turn => self.turn(host),
+            _ => Reply::NotYet,
+        }
+    }
+
+    /// TURN. It takes no memory.
+    fn turn<H: Host>(&mut self, host: &mut H) -> Reply
+        requires durable { IsDurable self.old (file_of 0 (H.world host.old)) }
+        ensures turns { HeldTurns self.old result self.new
+            (H.world host.old) (H.world host.new) }
+    {
+        if let Some(number) = self.book.halted() {
+            return Reply::Halted(number);
+        }
+        let next = self.book.count() + 1;
+        let turned = self.book.turn(host);
+        turn_reply(turned, self.book.transdb().active(), next)
     }
 
     /// A statement of this session.

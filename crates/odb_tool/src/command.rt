@@ -61,10 +61,14 @@ use std::alloc::Global;
 ///   makes it, or what they write into it is the next entry, with the replies of a commit.
 /// - **A full log is told exactly**: HISTORYFULL comes where the history has 2^48 entries, and else
 ///   FULL where the entry's record needs more bytes than the side of TRANSDB has left.
+/// - **The sides are turned exactly.** `! TURN` is answered NOTCLEAN exactly where the side of TRANSDB
+///   that isn't active isn't clean, unless an entry is in doubt; else it is answered TURNED, with that
+///   side and the number of the next entry, and the room is that of a whole side; or FAULT 0, and then
+///   all is as before. It changes no entry.
 /// - **A fault is counted.** FAULT 0 and INDOUBT are together at most as many as the count of faults
 ///   of TRANSDB rose by in the call: each has a rise of its own, one behind another. INDOUBT comes
 ///   only where the whole record but its gate was on the disk. After INDOUBT k every COMMIT in a
-///   transaction, and every such definition outside one, is answered HALTED k.
+///   transaction, every such definition outside one, and every `! TURN` is answered HALTED k.
 /// - Every other reply has its one cause, in the line, in the session's state or in the rows that it
 ///   sees.
 ///
@@ -80,8 +84,8 @@ use std::alloc::Global;
 ///
 /// Once the opening is over, which says nothing, the machines of the run keep the files so whatever
 /// they were at entry. From then on TRANSDB changes only in a step that is answered COMMITTED,
-/// FAULT or INDOUBT, before that answer is said: never in another step, between two, or behind the
-/// last one.
+/// FAULT, INDOUBT or TURNED, before that answer is said: never in another step, between two, or behind
+/// the last one.
 ///
 /// Want of memory alone is free: the reply MEMORY may come in the place of any other to a statement
 /// and then changes nothing, and the status `NoMemory` may come in the place of any other. No other

@@ -25,19 +25,6 @@ begin_start log places from at number w here first = record {
       (λ bytes. record { done = []; rest = log_of log.start log.end log.first bytes; all = []; list_is = refl; place = here; number_is = omega (arith, first); read = refl });
 }
 
--- at its end
-pub begin_end : (log : Log) (places : List ℕ) (from at number : ℕ) (w : World) → CanStep log places w → log.start ≤ log.place → log.first < log.next → log.next ≤ from → at ≡ log.place → number ≡ log.next → CanBegin log from at number w
-begin_end log places from at number w can low some behind here next = record {
-  low = omega (arith, here);
-  high = inr (omega (arith, here));
-  least = omega (arith, next);
-  most = omega (arith, next);
-  wanted = omega (arith, next);
-  whole = λ before. absurd (omega arith);
-  told = if_told_then (λ f. ArePlaced log places f.bytes) (λ f. IsBefore log at number f.bytes) (file_of log.file w)
-      (λ f are. subst (λ (p : ℕ). IsBefore log p number f.bytes) (sym here) (subst (λ (n : ℕ). IsBefore log log.place n f.bytes) (sym next) are.end)) can.told;
-}
-
 -- or at a place kept
 pub begin_kept : (log : Log) (places : List ℕ) (from at number kept : ℕ) (w : World) → CanStep log places w → 1 ≤ kept → kept ≤ length places → 64 * kept ≤ from - log.first → at ≡ slice_index places (kept - 1) → number ≡ log.first + 64 * kept
     → CanBegin log from at number w

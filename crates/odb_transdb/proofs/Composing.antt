@@ -100,6 +100,10 @@ pub by_result : {T E : Type 0} (A B C : Type 0) (r : Result T E) → (A → C) �
 by_result A B C (Ok x) first second a b = first a
 by_result A B C (Err e) first second a b = second b
 
+pub err_with : {T E : Type 0} (A B : Type 0) (r : Result T E) → (A → B) → OnErr r A → OnErr r B
+err_with A B (Ok x) gives a = tt
+err_with A B (Err e) gives a = gives a
+
 pub ok_with : {T E : Type 0} (A B C : Type 0) (r : Result T E) → (A → B → C) → OnOk r A → OnOk r B → OnOk r C
 ok_with A B C (Ok x) gives a b = gives a b
 ok_with A B C (Err e) gives a b = tt

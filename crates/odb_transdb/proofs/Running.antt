@@ -12,16 +12,15 @@ use Rattle.odb_reclog.specs.declared.window.Window.{Window}
 use Rattle.odb_codec.specs.Reading.{read_entry}
 use Rattle.odb_model.specs.declared.entry.Entry.{Entry}
 use Rattle.odb_model.specs.declared.side.OtherSide.{OtherSide}
-use Rattle.odb_model.specs.declared.side.OtherSide.TheVariants.{Live, Dirty, Clean}
 use Rattle.odb_model.specs.State.{IsNumberedFrom}
 use Rattle.odb_transdb.specs.declared.header.Header.{Header}
 use Rattle.odb_transdb.specs.declared.error.TransdbError.{TransdbError}
 use Rattle.odb_transdb.specs.Header.{is_header, first_on, active_first, other_of, first_by, first_held}
 use Rattle.odb_transdb.specs.Opened.{side_entries, entries_from, entries_in}
-use Rattle.odb_transdb.specs.Standing.{Db, IsOfSide, IsLiveBy, Stands}
+use Rattle.odb_transdb.specs.Standing.{Db, IsOfSide, Stands}
 use Rattle.odb_transdb.specs.Turning.{StandsSince}
 use Rattle.odb_transdb.specs.Walking.{live_read, sides_read, log_entries, IsRecordOf, IsEntryOf, AddsPart, AreUpTo}
-use Rattle.odb_transdb.specs.Runs.{run_of, IsRun, IsTaken, IsUndamaged, IsLastRun}
+use Rattle.odb_transdb.specs.Runs.{run_upto, IsRun, IsTaken, IsUndamaged, IsLastRun}
 use Rattle.odb_transdb.proofs.Entries.{count_read, read_split}
 use Rattle.odb_transdb.proofs.Joining.{LiveIs, active_entries, live_count, drop_both, stands_read}
 use Rattle.odb_transdb.proofs.Gathered.{own_of, since_read, last_of}
@@ -39,13 +38,13 @@ module _ (log : Log) (from : ℕ) (base : List Entry) (w mid : World) (window : 
   abbrev So : File → Type 0
   So f = IsReadUpTo from log.start log.first (list_in f) base items at number
 
-  pub run_ended : (r : LogRecord) → at < log.place → IfSome (file_of log.file w) (λ f. IsRecordOf (record_in log.start log.first (list_in f) at) at number (Ok r)) → r.number ≡ number → (e : Entry) → IsEntryOf r.number r.payload at (Ok e) → from ≤ number
-      → (new : List Entry) → ((rest : List Entry) → run_of (items ++ e ∷ rest) ≡ new)
-      → IfSome (file_of log.file w) (λ f. (all : List Entry) → log_entries log f.bytes ≡ Ok all → (rest : List Entry) → run_of ((base ++ drop (from - log.first) all) ++ rest) ≡ new)
-  run_ended r inside there its_number e is wanted new over = of_file (file_of log.file w) stands reads so_far.told there
+  pub run_ended : (most : ℕ) (r : LogRecord) → at < log.place → IfSome (file_of log.file w) (λ f. IsRecordOf (record_in log.start log.first (list_in f) at) at number (Ok r)) → r.number ≡ number → (e : Entry) → IsEntryOf r.number r.payload at (Ok e) → from ≤ number
+      → (new : List Entry) → ((rest : List Entry) → run_upto most (items ++ e ∷ rest) ≡ new)
+      → IfSome (file_of log.file w) (λ f. (all : List Entry) → log_entries log f.bytes ≡ Ok all → (rest : List Entry) → run_upto most ((base ++ drop (from - log.first) all) ++ rest) ≡ new)
+  run_ended most r inside there its_number e is wanted new over = of_file (file_of log.file w) stands reads so_far.told there
     where
       of_file : (o : Option File) → LogStands log o → ReadsImage o → IfSome o So → IfSome o (λ f. IsRecordOf (record_in log.start log.first (list_in f) at) at number (Ok r))
-          → IfSome o (λ f. (all : List Entry) → log_entries log f.bytes ≡ Ok all → (rest : List Entry) → run_of ((base ++ drop (from - log.first) all) ++ rest) ≡ new)
+          → IfSome o (λ f. (all : List Entry) → log_entries log f.bytes ≡ Ok all → (rest : List Entry) → run_upto most ((base ++ drop (from - log.first) all) ++ rest) ≡ new)
       of_file None here shown told found = tt
       of_file (Some f) here shown told found = λ all whole rest.
           let k : ℕ = from - log.first in
@@ -58,7 +57,7 @@ module _ (log : Log) (from : ℕ) (base : List Entry) (w mid : World) (window : 
           let both : drop k all ≡ drop k told.all ++ e ∷ split.0 = ap (drop k) split.1 ∙ drop-append-le k told.all (e ∷ split.0) few in
           let behind : base ++ drop k all ≡ items ++ e ∷ split.0 =
           ap (λ (l : List Entry). base ++ l) both ∙ sym (append_assoc base (drop k told.all) (e ∷ split.0)) ∙ ap (λ (l : List Entry). l ++ e ∷ split.0) (sym told.items_are) in
-          ap (λ (l : List Entry). run_of (l ++ rest)) behind ∙ ap run_of (append_assoc items (e ∷ split.0) rest) ∙ over (split.0 ++ rest)
+          ap (λ (l : List Entry). run_upto most (l ++ rest)) behind ∙ ap (run_upto most) (append_assoc items (e ∷ split.0) rest) ∙ over (split.0 ++ rest)
 
   -- or at the side's end
   pub run_went_on : log.place ≤ at → IfSome (file_of log.file w) (λ f. (all : List Entry) → log_entries log f.bytes ≡ Ok all → items ≡ base ++ drop (from - log.first) all)
@@ -80,33 +79,33 @@ added from number items new e false is takes leaves =
     leaves refl ∙ sym (ap (λ (l : List Entry). items ++ l) gone ∙ append-nil items)
 
 -- what a Live side's walk tells
-pub live_taken : (h : Header) (log active : Log) (o : Option File) (from : ℕ) (base items : List Entry) (r : Result Bool TransdbError) → LiveIs h h.other log active → IsOfSide h h.active active → LogStands log o → ReadsImage o → base ≡ []
-    → IfSome o (λ f. (all : List Entry) → log_entries log f.bytes ≡ Ok all → IsUndamaged (λ over. IsTaken over (base ++ drop (from - log.first) all) items) r)
-    → IfSome o (λ f. (front : List Entry) → live_read h h.other f.bytes ≡ Ok front → IsUndamaged (λ over. IsTaken over (drop (from - first_held h) front) items × (first_held h + length front ≡ active_first h)) r)
-live_taken h log active None from base items r is side stands reads none told = tt
-live_taken h log active (Some f) from base items r is side stands reads none told = λ front found.
+pub live_taken : (most : ℕ) (h : Header) (log active : Log) (o : Option File) (from : ℕ) (base items : List Entry) (r : Result Bool TransdbError) → LiveIs h h.other log active → IsOfSide h h.active active → LogStands log o → ReadsImage o → base ≡ []
+    → IfSome o (λ f. (all : List Entry) → log_entries log f.bytes ≡ Ok all → IsUndamaged (λ over. IsTaken most over (base ++ drop (from - log.first) all) items) r)
+    → IfSome o (λ f. (front : List Entry) → live_read h h.other f.bytes ≡ Ok front → IsUndamaged (λ over. IsTaken most over (drop (from - first_held h) front) items × (first_held h + length front ≡ active_first h)) r)
+live_taken most h log active None from base items r is side stands reads none told = tt
+live_taken most h log active (Some f) from base items r is side stands reads none told = λ front found.
     let read : side_entries h (other_of h) f.bytes ≡ Ok front = ap (λ (o : OtherSide). live_read h o f.bytes) (sym is.live) ∙ found in
     let whole : log_entries log f.bytes ≡ Ok front = active_entries h (other_of h) log f.bytes is.side ∙ read in
     let first : first_held h ≡ first_on h (other_of h) = ap (first_by h) is.live in
     let skip : from - log.first ≡ from - first_held h = ap (λ (n : ℕ). from - n) (is.side.first ∙ sym first) in
     let behind : base ++ drop (from - log.first) front ≡ drop (from - first_held h) front = ap (λ (l : List Entry). l ++ drop (from - log.first) front) none ∙ ap (λ (n : ℕ). drop n front) skip in
     let count : first_held h + length front ≡ active_first h = ap (λ (n : ℕ). n + length front) first ∙ live_count h log active f front is.side is.next side.first stands reads read in
-    undamaged_then (λ over. IsTaken over (base ++ drop (from - log.first) front) items) (λ over. IsTaken over (drop (from - first_held h) front) items × (first_held h + length front ≡ active_first h)) r
-    (λ over taken. (subst (λ (l : List Entry). IsTaken over l items) behind taken, count)) (told front whole)
+    undamaged_then (λ over. IsTaken most over (base ++ drop (from - log.first) front) items) (λ over. IsTaken most over (drop (from - first_held h) front) items × (first_held h + length front ≡ active_first h)) r
+    (λ over taken. (subst (λ (l : List Entry). IsTaken most over l items) behind taken, count)) (told front whole)
 
 -- what both walks tell
-abbrev pub FrontOf : Header → ℕ → List Entry → Bool → File → Type 0
-FrontOf h from items over f = (front : List Entry) → live_read h h.other f.bytes ≡ Ok front → IsTaken over (drop (from - first_held h) front) items × (first_held h + length front ≡ active_first h)
+abbrev pub FrontOf : ℕ → Header → ℕ → List Entry → Bool → File → Type 0
+FrontOf most h from items over f = (front : List Entry) → live_read h h.other f.bytes ≡ Ok front → IsTaken most over (drop (from - first_held h) front) items × (first_held h + length front ≡ active_first h)
 
-module _ (h : Header) (active : Log) (from : ℕ) (side : IsOfSide h h.active active) where
+module _ (most : ℕ) (h : Header) (active : Log) (from : ℕ) (side : IsOfSide h h.active active) where
   abbrev k : ℕ
   k = from - first_held h
 
   abbrev pub FrontTold : List Entry → Bool → File → Type 0
-  FrontTold = FrontOf h from
+  FrontTold = FrontOf most h from
 
   abbrev pub RunTold : List Entry → File → Type 0
-  RunTold items f = (all : List Entry) → sides_read h f.bytes ≡ Ok all → items ≡ run_of (drop k all)
+  RunTold items f = (all : List Entry) → sides_read h f.bytes ≡ Ok all → items ≡ run_upto most (drop k all)
 
   -- over in the Live side
   pub live_over : (o : Option File) (items : List Entry) → IfSome o (FrontTold items true) → IfSome o (RunTold items)
@@ -115,15 +114,15 @@ module _ (h : Header) (active : Log) (from : ℕ) (side : IsOfSide h h.active ac
       (λ f is. λ all whole.
       let parts = parts_of (live_read h h.other f.bytes) (side_entries h h.active f.bytes) all whole in
       let one = is parts.front parts.first_is in
-      sym (one.0 (drop (k - length parts.front) parts.rest)) ∙ ap run_of (sym (drop_both k parts.front parts.rest)) ∙ ap (λ (l : List Entry). run_of (drop k l)) (sym parts.both)) told
+      sym (one.0 (drop (k - length parts.front) parts.rest)) ∙ ap (run_upto most) (sym (drop_both k parts.front parts.rest)) ∙ ap (λ (l : List Entry). run_upto most (drop k l)) (sym parts.both)) told
 
   -- or it went on, and the active side's walk was over or not
-  ends_run : (over : Bool) (left : ℕ) (behind items : List Entry) → (over ≡ false → IsRun left items) → IsTaken over behind items → items ≡ run_of behind
-  ends_run true left behind items is taken = sym (taken []) ∙ ap run_of (append-nil behind)
-  ends_run false left behind items is taken = sym (run_all left items (is refl)) ∙ ap run_of taken
+  ends_run : (over : Bool) (left : ℕ) (behind items : List Entry) → (over ≡ false → IsRun most left items) → IsTaken most over behind items → items ≡ run_upto most behind
+  ends_run true left behind items is taken = sym (taken []) ∙ ap (run_upto most) (append-nil behind)
+  ends_run false left behind items is taken = sym (run_all most left items (is refl)) ∙ ap (run_upto most) taken
 
-  pub both_over : (o : Option File) (over : Bool) (left : ℕ) (first items : List Entry) → (over ≡ false → IsRun left items) → IfSome o (FrontTold first false)
-      → IfSome o (λ f. (rest : List Entry) → log_entries active f.bytes ≡ Ok rest → IsTaken over (first ++ drop (from - active.first) rest) items) → IfSome o (RunTold items)
+  pub both_over : (o : Option File) (over : Bool) (left : ℕ) (first items : List Entry) → (over ≡ false → IsRun most left items) → IfSome o (FrontTold first false)
+      → IfSome o (λ f. (rest : List Entry) → log_entries active f.bytes ≡ Ok rest → IsTaken most over (first ++ drop (from - active.first) rest) items) → IfSome o (RunTold items)
   both_over None over left first items is front rest = tt
   both_over (Some f) over left first items is front rest = λ all whole.
       let parts = parts_of (live_read h h.other f.bytes) (side_entries h h.active f.bytes) all whole in
@@ -132,18 +131,18 @@ module _ (h : Header) (active : Log) (from : ℕ) (side : IsOfSide h h.active ac
       let skip : from - active.first ≡ k - length parts.front = omega (arith, one.1, side.first) in
       let behind : first ++ drop (from - active.first) parts.rest ≡ drop k all =
       ap (λ (l : List Entry). l ++ drop (from - active.first) parts.rest) one.0 ∙ ap (λ (n : ℕ). drop k parts.front ++ drop n parts.rest) skip ∙ sym (drop_both k parts.front parts.rest) ∙ ap (drop k) (sym parts.both) in
-      ends_run over left (first ++ drop (from - active.first) parts.rest) items is taken ∙ ap run_of behind
+      ends_run over left (first ++ drop (from - active.first) parts.rest) items is taken ∙ ap (run_upto most) behind
 
 -- what is given, by what the sides hold
-abbrev pub RunToldOf : Db → ℕ → List Entry → File → Type 0
-RunToldOf db from items f = (all : List Entry) → sides_read db.header f.bytes ≡ Ok all → items ≡ run_of (drop (from - first_held db.header) all)
+abbrev pub RunToldOf : ℕ → Db → ℕ → List Entry → File → Type 0
+RunToldOf most db from items f = (all : List Entry) → sides_read db.header f.bytes ≡ Ok all → items ≡ run_upto most (drop (from - first_held db.header) all)
 
-module _ (db : Db) (from : ℕ) (items : List Entry) where
-  pub given_run : (o : Option File) → Stands db o → ReadsImage o → IfSome o (RunToldOf db from items) → IfSome o (λ f. items ≡ run_of (drop (from - first_held db.header) (entries_in (Some f))))
+module _ (most : ℕ) (db : Db) (from : ℕ) (items : List Entry) where
+  pub given_run : (o : Option File) → Stands db o → ReadsImage o → IfSome o (RunToldOf most db from items) → IfSome o (λ f. items ≡ run_upto most (drop (from - first_held db.header) (entries_in (Some f))))
   given_run None stands reads told = tt
   given_run (Some f) stands reads told = told (entries_in (Some f)) (stands_read db f stands reads)
 
-  pub given_last_run : (all : List Entry) → IsTrue (is_header db.header) → first_held db.header ≤ from → (o : Option File) → StandsSince db all o → ReadsImage o → IfSome o (RunToldOf db from items) → IfSome o (λ f. IsLastRun from db.active.next all items)
+  pub given_last_run : (all : List Entry) → IsTrue (is_header db.header) → first_held db.header ≤ from → (o : Option File) → StandsSince db all o → ReadsImage o → IfSome o (RunToldOf most db from items) → IfSome o (λ f. IsLastRun most from db.active.next all items)
   given_last_run all lawful low None since reads told = tt
   given_last_run all lawful low (Some f) since reads told =
       let own = own_of db all lawful f since reads in
@@ -157,16 +156,6 @@ module _ (db : Db) (from : ℕ) (items : List Entry) where
   pub never_ended : (all : List Entry) → IsTrue (is_header db.header) → (Q : File → Type 0) → (o : Option File) → StandsSince db all o → ReadsImage o → IfSome o (λ f. (found : List Entry) → sides_read db.header f.bytes ≡ Ok found → ⊥) → IfSome o Q
   never_ended all lawful Q None since reads told = tt
   never_ended all lawful Q (Some f) since reads told = absurd (told (own_of db all lawful f since reads).entries (since_read db all lawful f since reads))
-
--- where no side is Live its walk has nothing
-pub live_none : (h : Header) (active : Log) (o : Option File) (from : ℕ) (items : List Entry) → IsLiveBy h h.other None active → items ≡ [] → IfSome o (FrontOf h from items false)
-live_none h active None from items by none = tt
-live_none h active (Some f) from items by none = λ front read. of_state h.other by front read
-  where
-    of_state : (s : OtherSide) → IsLiveBy h s None active → (front : List Entry) → live_read h s f.bytes ≡ Ok front → (items ≡ drop (from - first_by h s) front) × (first_by h s + length front ≡ active_first h)
-    of_state Live by front read = absurd by
-    of_state Dirty by front read = let gone : front ≡ [] = cc read in (none ∙ sym (drop_all (from - active_first h) front (omega (arith, ap (length {A = Entry}) gone))), omega (arith, ap (length {A = Entry}) gone))
-    of_state Clean by front read = let gone : front ≡ [] = cc read in (none ∙ sym (drop_all (from - active_first h) front (omega (arith, ap (length {A = Entry}) gone))), omega (arith, ap (length {A = Entry}) gone))
 
 -- the numbers of a Live side's entries
 pub live_numbers : (h : Header) (log active : Log) (from bytes : ℕ) (base items : List Entry) → LiveIs h h.other log active → IsOfSide h h.active active → first_held h ≤ from → base ≡ [] → AddsPart from log.first log.next bytes base items → AreUpTo from (active_first h) items

@@ -1,6 +1,6 @@
 -- A TRANSDB whose pair may be unsettled: what a crash may leave of it, and what turning and cleaning
 -- its sides do.
-use Rattle.std.specs.Prelude.{◌≡◌, ◌≢◌, ◌⊎◌, ℕ, ◌+◌, ◌-◌, ◌<◌, ◌≤◌, max, List, ◌++◌, length, ⊤, Option, Some, None, Result, Ok, Err, IfSome, IfOk}
+use Rattle.std.specs.Prelude.{◌≡◌, ◌≢◌, ◌⊎◌, ℕ, ◌+◌, ◌-◌, ◌<◌, ◌≤◌, max, false, List, ◌++◌, length, ⊤, Option, Some, None, Result, Ok, Err, IfSome, IfOk}
 use Rattle.odb_device.specs.World.{File, World, file_of}
 use Rattle.odb_device.specs.Images.{EachImage}
 use Rattle.odb_device.specs.Calls.{FileCountRose}
@@ -127,8 +127,8 @@ IsOfTurn db k =
     (IsLeft db k ⊎ (k ≡ turned db.active.next db.header))
     × (first_held k ≡ first_held db.header)
 
--- Through a turn only the pair is written, and at each moment each image holds the same entries, under
--- the old header or the new one; and what stood for these entries does so
+-- Through a turn at each moment each image holds the same entries, under a header that was left or the
+-- new one; and what stood for these entries does so
 pub record RunsTurn (all : List Entry) (old new : Db) (before after : World) : Type 0 where
   pub run : Runs 0 (EachImage (HoldsOneOf (IsOfTurn old) old.active.next all)) before after
   pub stands : StandsSince new all (file_of 0 after)
@@ -212,12 +212,13 @@ pub record RunsSettling (all : List Entry) (old new : Db) (before after : World)
   pub stands : StandsSince new all (file_of 0 after)
   pub sides : SameSides old new
 
--- Settling the pair broke off: the count rose, and nothing more was done
+-- Settling the pair broke off: the count rose, the pair is unsettled, and nothing more was done
 pub record BreaksOff
     (result : Result ℕ TransdbError) (settled new : Db) (before mid after : World) : Type 0 where
   pub fault : result ≡ Err FaultBefore
   pub same : new ≡ settled
   pub nothing : after ≡ mid
+  pub unsettled : settled.pair.settled ≡ false
   pub rose : FileCountRose 0 before mid
 
 -- The pair is settled first, and what follows is as from a settled one, or it broke off in that

@@ -30,8 +30,9 @@ impl Transdb {
     /// one sync more where it wrote. After a `turn` or a `clean` that failed the header is put once
     /// more before all else: three writes and three syncs at most.
     ///
-    /// At each moment a crash leaves the entries before, or those and this one; after Ok the
-    /// latter, and nothing behind its record.
+    /// While the pair is settled first a crash leaves the last of the entries before, from the
+    /// first number by the header that counts. From then on, at each moment, it leaves the entries
+    /// before, or those and this one; after Ok the latter, and nothing behind its record.
     ///
     /// - `Full`: the record needs more bytes than the side has left. No call of the store was made.
     /// - `FaultBefore`: a call of the store failed before the gate was written, and the entry isn't
@@ -76,6 +77,7 @@ impl Transdb {
         ensures quiet { self.old.pair.settled ≡ true
             → (result ≡ Ok tt) × (self.new ≡ self.old) × (store.new ≡ store.old) }
         ensures sides { SameSides self.old self.new }
+        ensures unsettled { OnErr result (self.new.pair.settled ≡ false) }
         ensures stands { OnOk result (Stands self.new (file_of 0 (S.world store.new))) }
         ensures placed { IsPlaced self.new }
         ensures cause { HasCause 0 (S.world store.old) (S.world store.new) result }

@@ -8,7 +8,7 @@ ghost use Rattle.odb_transdb.specs.Header.{first_held, active_first};
 ghost use Rattle.odb_transdb.specs.Answers.{FailsAsRead};
 ghost use Rattle.odb_transdb.specs.Leaving.{CanReadSides};
 ghost use Rattle.odb_transdb.specs.Walking.{AddsPart, AddsSome, AreUpTo, AreSome, CanBegin, CanStep};
-ghost use Rattle.odb_transdb.specs.Runs.{run_of, IsRun, TellsRun, TellsFront, TellsSide, EndsWith};
+ghost use Rattle.odb_transdb.specs.Runs.{run_upto, IsRun, TellsRun, TellsFront, TellsSide, EndsWith};
 
 use crate::places::Places;
 use crate::reading::{Beginning, begin_at, entry_of, record_at};
@@ -19,14 +19,13 @@ use odb_reclog::{RecLog, Window};
 use odb_values::{Frozen, List};
 use std::alloc::{AllocError, Global};
 
-/// The most writes that the entries of a run have in all.
-const MOST_WRITES: usize = 256;
-
 /// A run that is being read.
 #[derive(Debug, Drop)]
 struct Run {
     entries: List<Entry>,
-    /// How many writes more its entries may have.
+    /// How many writes its entries may have in all.
+    most: usize,
+    /// How many more they may have.
     left: usize,
 }
 
@@ -37,7 +36,7 @@ impl Transdb {
     ghost use Rattle.odb_transdb.specs.Runs.{GivesRun};
 
     /// The run of entries from a number on, which is at least `first()`, in order: as many as have
-    /// at most 256 writes in all, and at least one where there is one.
+    /// at most `most_writes` writes in all, and at least one where there is one.
     ///
     /// It reads what `entries` would up to the first entry that isn't in the run, that one too, and
     /// takes memory for one record at a time and for the entries that it gives.
@@ -51,6 +50,7 @@ impl Transdb {
         alloc: Global,
         store: &mut S,
         from: u64,
+        most_writes: usize,
     ) -> Result<Entries, TransdbError>
         requires usable { self.now.active.in_doubt ≡ false }
         requires from { first_held self.now.header ≤ from }
@@ -58,8 +58,9 @@ impl Transdb {
         ensures run { OnlyReads 0 (S.world store.old) (S.world store.new) }
         ensures entries { Stands self.now (file_of 0 (S.world store.old))
             → IfSome (file_of 0 (S.world store.old)) (λ f. IfOk result (λ es.
-            es ≡ run_of (drop (from - first_held self.now.header) (entries_in (Some f))))) }
-        ensures last { GivesRun self.now from result (file_of 0 (S.world store.old)) }
+            es ≡ run_upto most_writes
+            (drop (from - first_held self.now.header) (entries_in (Some f))))) }
+        ensures last { GivesRun most_writes self.now from result (file_of 0 (S.world store.old)) }
         ensures numbers { IfOk result (AreSome from self.now.active.next) }
         ensures placed { IsPlaced self.now }
         ensures refusal { IfErr result (λ e. (e ≡ TransdbError.Fault)
@@ -70,7 +71,8 @@ impl Transdb {
         let entries = List::new(alloc);
         let mut run = Run {
             entries,
-            left: MOST_WRITES,
+            most: most_writes,
+            left: most_writes,
         };
         match run_sides(
             alloc,
@@ -111,10 +113,10 @@ fn run_sides<S: Store>(
     requires live_steps { IfSome live.now
         (λ log. CanStep log live_places.now (S.world store.old)) }
     requires steps { CanStep active.now places.now (S.world store.old) }
-    requires none { (run.old.entries.items ≡ []) × (run.old.left ≡ 256) }
+    requires none { (run.old.entries.items ≡ []) × (run.old.left ≡ run.old.most) }
     ensures run { OnlyReads 0 (S.world store.old) (S.world store.new) }
     ensures told { IfTold 0 (S.world store.old)
-        (λ bytes. TellsRun header.now from run.new.entries.items bytes result) }
+        (λ bytes. TellsRun run.old.most header.now from run.new.entries.items bytes result) }
     ensures some { AreSome from active.now.next run.new.entries.items }
     ensures fails { FailsAsRead 0 result (S.world store.old) (S.world store.new) }
 {
@@ -142,13 +144,14 @@ fn run_live<S: Store>(
     requires readable { CanReadSides header.now live.now active.now from (S.world store.old) }
     requires live_steps { IfSome live.now
         (λ log. CanStep log live_places.now (S.world store.old)) }
-    requires none { (run.old.entries.items ≡ []) × (run.old.left ≡ 256) }
+    requires none { (run.old.entries.items ≡ []) × (run.old.left ≡ run.old.most) }
     ensures run { OnlyReads 0 (S.world store.old) (S.world store.new) }
     ensures told { IfTold 0 (S.world store.old)
-        (λ bytes. TellsFront header.now from run.new.entries.items bytes result) }
+        (λ bytes. TellsFront run.old.most header.now from run.new.entries.items bytes result) }
+    ensures most { run.new.most ≡ run.old.most }
     ensures numbers { result ≡ Ok false
         → AreUpTo from (active_first header.now) run.new.entries.items
-        × IsRun run.new.left run.new.entries.items }
+        × IsRun run.new.most run.new.left run.new.entries.items }
     ensures some { AreSome from (active_first header.now) run.new.entries.items }
     ensures fails { FailsAsRead 0 result (S.world store.old) (S.world store.new) }
 {
@@ -178,13 +181,15 @@ fn add_run<S: Store>(
     requires usable { log.now.in_doubt ≡ false }
     requires stands { LogStands log.now (file_of log.now.file (S.world store.old)) }
     requires begin { CanBegin log.now from beginning.at beginning.number (S.world store.old) }
-    requires is_run { IsRun run.old.left run.old.entries.items }
+    requires is_run { IsRun run.old.most run.old.left run.old.entries.items }
     ensures run { OnlyReads log.now.file (S.world store.old) (S.world store.new) }
     ensures told { IfTold log.now.file (S.world store.old)
-        (λ bytes. TellsSide log.now from run.old.entries.items run.new.entries.items bytes result) }
+        (λ bytes. TellsSide run.old.most log.now from
+        run.old.entries.items run.new.entries.items bytes result) }
+    ensures most { run.new.most ≡ run.old.most }
     ensures part { result ≡ Ok false → AddsPart from log.now.first log.now.next
         (log.now.place - log.now.start) run.old.entries.items run.new.entries.items
-        × IsRun run.new.left run.new.entries.items }
+        × IsRun run.new.most run.new.left run.new.entries.items }
     ensures some { AddsSome from log.now.first log.now.next
         run.old.entries.items run.new.entries.items }
     ensures fails { FailsAsRead log.now.file result (S.world store.old) (S.world store.new) }
@@ -210,17 +215,18 @@ fn add_run<S: Store>(
 }
 
 /// Adds an entry that is wanted where the run may have it, and tells whether the run is over: an
-/// entry that isn't its first and has too many writes ends it, and a first one that has more than
-/// 256 is all of it.
+/// entry that isn't its first and has too many writes ends it, and a first one that has too many is
+/// all of it.
 fn take(run: &mut Run, entry: Entry, wanted: bool) -> Result<bool, AllocError>
-    requires { IsRun run.old.left run.old.entries.items }
+    requires { IsRun run.old.most run.old.left run.old.entries.items }
+    ensures most { run.new.most ≡ run.old.most }
     ensures unwanted { wanted ≡ false
         → (result ≡ Ok false) × (run.new.entries.items ≡ run.old.entries.items) }
     ensures goes_on { result ≡ Ok false → wanted ≡ true
         → run.new.entries.items ≡ run.old.entries.items ++ entry ∷ [] }
-    ensures is_run { result ≡ Ok false → IsRun run.new.left run.new.entries.items }
+    ensures is_run { result ≡ Ok false → IsRun run.new.most run.new.left run.new.entries.items }
     ensures over { result ≡ Ok true
-        → EndsWith run.old.entries.items entry run.new.entries.items }
+        → EndsWith run.old.most run.old.entries.items entry run.new.entries.items }
     ensures last { OnOk result ((run.new.entries.items ≡ run.old.entries.items)
         ⊎ (run.new.entries.items ≡ run.old.entries.items ++ entry ∷ [])) }
     ensures err { OnErr result (run.new.entries.items ≡ run.old.entries.items) }

@@ -27,8 +27,8 @@ impl Transdb {
     ///
     /// It puts the new header: at most three writes and three syncs. The side is begun without a
     /// look at it, since a Clean side is zeros on the disk. At each moment a crash leaves the same
-    /// entries, under the old header or the new one. No memory is taken: what the places kept of
-    /// the Live side's records took before is there for those of the new active side.
+    /// entries, under the old header or the new one. No memory is taken: that for the places kept
+    /// of both sides' records was reserved by the opening.
     ///
     /// - `NotClean`: the other side isn't Clean. No call of the store was made.
     /// - `Fault`: a call of the store failed. All is as before but that the pair is unsettled: a
@@ -48,6 +48,7 @@ impl Transdb {
         ensures entries { OnOk result (SameEntries (S.world store.old) (S.world store.new)) }
         ensures room { OnOk result (room_of self.new ≡ side_size self.new.header) }
         ensures fault { result ≡ Err TransdbError.Fault → SameSides self.old self.new }
+        ensures unsettled { result ≡ Err TransdbError.Fault → self.new.pair.settled ≡ false }
         ensures placed { IsPlaced self.old × IsPlaced self.new }
         ensures cause { result ≡ Err TransdbError.Fault
             → FileCountRose 0 (S.world store.old) (S.world store.new) }

@@ -16,7 +16,7 @@ use Rattle.odb_model.specs.Transaction.{Executed, table_keys, meaning_over, open
 use Rattle.odb_model.specs.Intentions.{writes_to, was_there_from, intention_of, intentions_of, intended}
 use Rattle.odb_model.specs.Serial.{HasOpenReplies}
 use Rattle.odb_model.specs.Storable.{IsNarrow, AreStorable}
-use Rattle.odb_model.proofs.Runs.{write_set_from-more, reads_from-more}
+use Rattle.odb_model.proofs.Longer.{write_set_from-more, reads_from-more}
 use Rattle.odb_model.proofs.Intended.{intended_net}
 use Rattle.odb_rowsource.specs.Intentions.{put_all}
 use Rattle.odb_rowsource.proofs.Kept.{intentions-begin, intentions-grow, intentions-count}

@@ -1,4 +1,4 @@
-use Rattle.std.proofs.Common.{Some, None, sym, ap, subst}
+use Rattle.std.proofs.Common.{sym, ap, subst}
 use Rattle.std.specs.Option.{option_copied}
 use Rattle.odb_bank.specs.History.{Key}
 use Rattle.odb_bank.specs.LeastAbove.{ArePassed}

@@ -7,8 +7,12 @@ use Rattle.odb_logdb.specs.declared.error.LogdbError.{LogdbError}
 use Rattle.odb_logdb.specs.Opened.{opened}
 use Rattle.odb_logdb.specs.Standing.{LogState, IsLogdb, Stands}
 use Rattle.odb_logdb.specs.Answers.{IsOpenAnswer}
+use Rattle.odb_logdb.specs.Worlds.{OnlyClosesGate}
 use Rattle.odb_logdb.proofs.Opens.{length_refused, opened_leaves, all_leaves, refused_at, answered_at, entries_still, stands_at, made_at}
+use Rattle.odb_logdb.proofs.Gates.{gate_look, gate_reads, gate_open}
+use Rattle.odb_logdb.proofs.opening.open_content.Given.{Over}
 use Rattle.odb_logdb.proofs.opening.open_content.Goals as goal
+use Rattle.odb_logdb.proofs.opening.open_content.Goals.{After-open_log}
 
 -- a refusal that `?` hands on
 handed : (w : World) (r : Result LogState LogdbError) (err : LogdbError) → r ≡ Err err → IfSome (file_of 1 w) (λ f. IsOpenAnswer (Err err) (opened f.bytes)) → IfSome (file_of 1 w) (λ f. IsOpenAnswer r (opened f.bytes))
@@ -107,4 +111,24 @@ invariant_of-result g c =
     subst P (sym c.list_state-state.ensures)
     (made_at c.args.extents c.args.fields w w1 w2 c.limit-limit.result c.list_start-start.result c.content_end-end.result c.limit-limit.ensures.value c.content_end-end.ensures c.list_start-start.ensures.value
     (g.met.S.Store.reads_image c.args.store.now 1) (g.met.S.Store.reads_image c.open_log.new.store 1) c.requires.found c.in_ok-check_length.ensures.told c.check_length.ensures.run c.open_log.ensures.run
-    w3 c.check_entries.ensures.run c.in_ok-log.log c.in_ok-log.ensures.opened)
+    w3 c.check_entries.ensures.run c.in_ok-log.log c.in_ok-log.ensures.opened c.limit-limit.ensures.range.0 c.limit-limit.ensures.range.1)
+
+-- the gate that an opening closes
+closes : (g : Over) (c : After-open_log g) → OnlyClosesGate (g.S.Outside.world c.args.store.now) (g.S.Outside.world c.open_log.new.store)
+closes g c =
+    gate_open c.args.extents c.args.fields (g.S.Outside.world c.args.store.now) (g.S.Outside.world c.check_length.new.store) (g.S.Outside.world c.open_log.new.store) c.limit-limit.result c.list_start-start.result c.content_end-end.result c.limit-limit.ensures.value
+    c.content_end-end.ensures c.list_start-start.ensures.value c.requires.found c.in_ok-check_length.ensures.told c.check_length.ensures.run c.open_log.ensures.gate
+
+pub returns-in_err-check_length-clause-gate : goal.returns-in_err-check_length-clause-gate
+returns-in_err-check_length-clause-gate g c = gate_look (g.S.Outside.world c.args.store.now) (g.S.Outside.world c.check_length.new.store) c.check_length.ensures.run
+
+pub returns-in_err-log-clause-gate : goal.returns-in_err-log-clause-gate
+returns-in_err-log-clause-gate g c = closes g (goal.at.returns-in_err-log-clause-gate g c).After-open_log
+
+pub returns-in_err-check_entries-clause-gate : goal.returns-in_err-check_entries-clause-gate
+returns-in_err-check_entries-clause-gate g c =
+    gate_reads (g.S.Outside.world c.args.store.now) (g.S.Outside.world c.open_log.new.store) (g.S.Outside.world c.check_entries.new.store) (closes g (goal.at.returns-in_err-check_entries-clause-gate g c).After-open_log) c.check_entries.ensures.run
+
+pub returns-clause-gate : goal.returns-clause-gate
+returns-clause-gate g c =
+    gate_reads (g.S.Outside.world c.args.store.now) (g.S.Outside.world c.open_log.new.store) (g.S.Outside.world c.check_entries.new.store) (closes g (goal.at.returns-clause-gate g c).After-open_log) c.check_entries.ensures.run

@@ -1,12 +1,18 @@
 use Rattle.std.proofs.Common.{◌∙◌, Err, ap, sym, subst}
 use Rattle.odb_model.specs.declared.status.Status.{Status}
 use Rattle.odb_model.specs.declared.status.Status.TheVariants.{NotHeld}
+use Rattle.odb_device.specs.World.{file_of}
+use Rattle.odb_transdb.proofs.Standing.{stands_settled}
 use Rattle.odb_play.specs.Opening.{IsRefused}
 use Rattle.odb_play.proofs.Starting.{started_with, begins_with, refused_with, refused_behind}
 use Rattle.odb_play.proofs.opening.open_system.Goals as goal
 
-pub start-requires : goal.start-requires
-start-requires g c =
+pub start-requires-clause-settled : goal.start-requires-clause-settled
+start-requires-clause-settled g c =
+    (stands_settled c.in-Ok.opened.transdb (file_of 0 (g.H.Outside.world c.open_with_entries.new.store)) c.in-Ok.ensures.opened.stands).settled
+
+pub start-requires-clause-begins : goal.start-requires-clause-begins
+start-requires-clause-begins g c =
     let found = c.in-Ok.ensures.opened in
     begins_with c.in-Ok.opened.transdb c.in-Ok.opened.entries (sym c.first-first.ensures ∙ c.if-first-ne1.false) found.usable found.placed found.numbers.0 found.numbers.1 found.width
 

@@ -2,7 +2,7 @@ use Rattle.std.proofs.Common.{◌≡◌, ℕ, ◌+◌, ◌≤◌, take, length, 
 use Rattle.std.proofs.lemmas.List.{length-take-le}
 use Rattle.odb_device.proofs.Talking.{talks_none, talks_files}
 use Rattle.odb_model.specs.declared.status.Status.{Status}
-use Rattle.odb_model.specs.Play.{most_input}
+use Rattle.odb_machine.specs.Play.{most_input}
 use Rattle.odb_system.specs.Durable.{IsDurable}
 use Rattle.odb_play.specs.declared.player.Stop.{Stop}
 use Rattle.odb_play.specs.declared.player.Stop.TheVariants.{WriteFault}

@@ -1,7 +1,7 @@
 use Rattle.std.proofs.Common.{◌≡◌, ◌-◌, ◌≤◌, ◌<◌, [], length}
 use Rattle.odb_device.specs.World.{file_of, present}
-use Rattle.odb_model.specs.Machine.{Machine}
-use Rattle.odb_model.specs.Play.{most_input}
+use Rattle.odb_machine.specs.Machine.{Machine}
+use Rattle.odb_machine.specs.Play.{most_input}
 use Rattle.odb_system.specs.Held.{StandsFor}
 use Rattle.odb_system.specs.Durable.{IsDurable}
 use Rattle.odb_system.specs.Kept.{Rests}

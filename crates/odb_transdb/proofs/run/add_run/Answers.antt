@@ -11,7 +11,7 @@ use Rattle.odb_model.specs.declared.entry.Entry.{Entry}
 use Rattle.odb_transdb.specs.declared.error.TransdbError.{TransdbError}
 use Rattle.odb_transdb.specs.Opened.{entries_from}
 use Rattle.odb_transdb.specs.Walking.{log_entries, IsReadOf, IsRecordOf}
-use Rattle.odb_transdb.specs.Runs.{IsTaken, IsUndamaged}
+use Rattle.odb_transdb.specs.Runs.{IsRun, IsTaken, IsUndamaged, EndsWith}
 use Rattle.odb_transdb.proofs.Runs.{undamaged}
 use Rattle.odb_transdb.proofs.Running.{run_ended, run_went_on, added}
 use Rattle.odb_transdb.proofs.Walking.{IsWalked, walked_some, walked_begun, walked_file, walked_place, refused_record, refused_entry, walked_more, walked_wrong}
@@ -24,6 +24,7 @@ loop-at-init g c = record {
   walked = walked_begun c.args.log.now c.args.from c.args.run.now.entries.items (g.S.Outside.world c.args.store.now) c.new-window.result c.args.beginning.at c.args.beginning.number c.requires.begin
       (c.new-window.ensures (file_of c.args.log.now.file (g.S.Outside.world c.args.store.now)));
   run = c.requires.is_run;
+  most = refl;
 }
 
 -- what the record's call says of the file as it was at first
@@ -46,12 +47,12 @@ record_at-requires-clause-readable g c =
     }
 
 -- where all are entries a refusal is no damage
-refused : (r : Result Bool TransdbError) (e : TransdbError) (o : Option File) (log : Log) (base items : List Entry) (from : ℕ) → r ≡ Err e → IfSome o (λ f. IsReadOf {T = Unit {0}} (λ all done. Unit {0}) (entries_from log.first log.start (log_of log.start log.end log.first f.bytes)) (Err e))
-    → IfSome o (λ f. (all : List Entry) → log_entries log f.bytes ≡ Ok all → IsUndamaged (λ over. IsTaken over (base ++ drop (from - log.first) all) items) r)
-refused r e None log base items from is told = tt
-refused r e (Some f) log base items from is told = λ all whole.
-    subst (IsUndamaged (λ over. IsTaken over (base ++ drop (from - log.first) all) items)) (sym is)
-    (undamaged {T = Unit {0}} (λ all done. Unit {0}) (λ over. IsTaken over (base ++ drop (from - log.first) all) items) (log_entries log f.bytes) all e whole told)
+refused : (r : Result Bool TransdbError) (e : TransdbError) (o : Option File) (log : Log) (base items : List Entry) (from most : ℕ) → r ≡ Err e → IfSome o (λ f. IsReadOf {T = Unit {0}} (λ all done. Unit {0}) (entries_from log.first log.start (log_of log.start log.end log.first f.bytes)) (Err e))
+    → IfSome o (λ f. (all : List Entry) → log_entries log f.bytes ≡ Ok all → IsUndamaged (λ over. IsTaken most over (base ++ drop (from - log.first) all) items) r)
+refused r e None log base items from most is told = tt
+refused r e (Some f) log base items from most is told = λ all whole.
+    subst (IsUndamaged (λ over. IsTaken most over (base ++ drop (from - log.first) all) items)) (sym is)
+    (undamaged {T = Unit {0}} (λ all done. Unit {0}) (λ over. IsTaken most over (base ++ drop (from - log.first) all) items) (log_entries log f.bytes) all e whole told)
 
 pub returns-in_err-record-clause-told : goal.returns-in_err-record-clause-told
 returns-in_err-record-clause-told g c =
@@ -66,7 +67,7 @@ returns-in_err-record-clause-told g c =
     subst (λ (o : Option File). IfSome o (λ f. IsRecordOf (record_in log.start log.first (log_of log.start log.end log.first f.bytes) c.loop-at.at) c.loop-at.at c.loop-at.number (Err e)))
     (walked_file log c.args.from base w mid c.loop-at.window c.loop-at.at c.loop-at.number items c.loop-at.invariant.walked c.requires.stands reads) c.in_err-record.ensures.told in
     let p = err_from_is_err_and c.from_residual.result c.from_residual.ensures.1 in
-    refused c.from_residual.result e (file_of log.file w) log base items c.args.from (p.1 ∙ ap Err p.2)
+    refused c.from_residual.result e (file_of log.file w) log base items c.args.from c.args.run.now.most (p.1 ∙ ap Err p.2)
     (refused_record log c.args.from base w mid c.loop-at.window c.loop-at.at c.loop-at.number items c.loop-at.invariant.walked c.requires.stands reads {T = Unit {0}} (λ all done. Unit {0}) e (omega (arith, c.place-end.ensures.value)) told)
 
 pub returns-in_err-entry-clause-told : goal.returns-in_err-entry-clause-told
@@ -83,7 +84,7 @@ returns-in_err-entry-clause-told g c =
     subst (λ (o : Option File). IfSome o (λ f. IsRecordOf (record_in log.start log.first (log_of log.start log.end log.first f.bytes) c.loop-at.at) c.loop-at.at c.loop-at.number (Ok r)))
     (walked_file log c.args.from base w mid c.loop-at.window c.loop-at.at c.loop-at.number items c.loop-at.invariant.walked c.requires.stands reads) c.in_ok-record.ensures.told in
     let p = err_from_is_err_and c.from_residual-in_err-entry.result c.from_residual-in_err-entry.ensures.1 in
-    refused c.from_residual-in_err-entry.result e (file_of log.file w) log base items c.args.from (p.1 ∙ ap Err p.2)
+    refused c.from_residual-in_err-entry.result e (file_of log.file w) log base items c.args.from c.args.run.now.most (p.1 ∙ ap Err p.2)
     (refused_entry log c.args.from base w mid c.loop-at.window c.loop-at.at c.loop-at.number items c.loop-at.invariant.walked c.requires.stands reads r (omega (arith, c.place-end.ensures.value)) told c.in_ok-record.ensures.found.0
     {T = Unit {0}} (λ all done. Unit {0}) e c.in_err-entry.ensures)
 
@@ -121,6 +122,9 @@ module _ (g : Over) (c : After-take g) where
       of_test true same left = leb-true c.args.from c.loop-at.number (sym same)
       of_test false same left = let wrong : Ok true ≡ Ok false = sym over ∙ left refl in absurd (cc wrong)
 
+pub take-requires : goal.take-requires
+take-requires g c = subst (λ (m : ℕ). IsRun m c.loop-at.run.left c.loop-at.run.entries.items) (sym c.loop-at.invariant.most) c.loop-at.invariant.run
+
 pub loop-at-preserved : goal.loop-at-preserved
 loop-at-preserved g c =
     let a = (goal.at.loop-at-preserved g c).After-take in
@@ -132,15 +136,17 @@ loop-at-preserved g c =
     added c.args.from c.loop-at.number items new e (nat_le c.args.from c.loop-at.number) refl (λ wanted. c.take.ensures.goes_on went_on wanted) (λ unwanted. (c.take.ensures.unwanted unwanted).1) in
     record {
       walked = further g a (omega (arith, c.loop-at-test.true, c.place-end.ensures.value)) new items_now;
-      run = c.take.ensures.is_run went_on;
+      run = subst (λ (m : ℕ). IsRun m c.take.new.run.left c.take.new.run.entries.items) (c.take.ensures.most ∙ c.loop-at.invariant.most) (c.take.ensures.is_run went_on);
+      most = c.take.ensures.most ∙ c.loop-at.invariant.most;
     }
 
 pub returns-then-branch-clause-told : goal.returns-then-branch-clause-told
 returns-then-branch-clause-told g c =
     let a = (goal.at.returns-then-branch-clause-told g c).After-take in
     let over : c.take.result ≡ Ok true = c.in_ok-take.was ∙ ap Ok c.if-branch.true in
-    run_ended (log g a) c.args.from c.args.run.now.entries.items (w g a) (mid g a) c.loop-at.window c.loop-at.at c.loop-at.number c.loop-at.run.entries.items c.loop-at.invariant.walked c.requires.stands (reads g a) c.in_ok-record.record
-    (omega (arith, c.loop-at-test.true, c.place-end.ensures.value)) (told g a) c.in_ok-record.ensures.found.0 c.in_ok-entry.entry c.in_ok-entry.ensures (is_wanted g a over) c.take.new.run.entries.items (c.take.ensures.over over)
+    run_ended (log g a) c.args.from c.args.run.now.entries.items (w g a) (mid g a) c.loop-at.window c.loop-at.at c.loop-at.number c.loop-at.run.entries.items c.loop-at.invariant.walked c.requires.stands (reads g a) c.args.run.now.most c.in_ok-record.record
+    (omega (arith, c.loop-at-test.true, c.place-end.ensures.value)) (told g a) c.in_ok-record.ensures.found.0 c.in_ok-entry.entry c.in_ok-entry.ensures (is_wanted g a over) c.take.new.run.entries.items
+    (subst (λ (m : ℕ). EndsWith m c.loop-at.run.entries.items c.in_ok-entry.entry c.take.new.run.entries.items) c.loop-at.invariant.most (c.take.ensures.over over))
 
 pub returns-then-branch-clause-some : goal.returns-then-branch-clause-some
 returns-then-branch-clause-some g c =

@@ -18,7 +18,7 @@ add_run-requires-clause-begin g c =
     c.begin_at-beginning.ensures w (subst (λ (l : Option Log). IfSome l (λ log. CanStep log c.args.live_places.now w)) c.in-Some.is c.requires.live_steps)
 
 pub add_run-requires-clause-is_run : goal.add_run-requires-clause-is_run
-add_run-requires-clause-is_run g c = run_none c.args.run.now.left c.args.run.now.entries.items c.requires.none.0 c.requires.none.1
+add_run-requires-clause-is_run g c = run_none c.args.run.now.most c.args.run.now.left c.args.run.now.entries.items c.requires.none.0 c.requires.none.1
 
 module _ (g : Over) (c : After-add_run g) where
   abbrev w : World
@@ -38,10 +38,10 @@ returns-clause-told g c =
     let log = c.in-Some.log in
     let items = c.args.run.now.entries.items in
     let stands : LogStands log (file_of 0 (w g a)) = subst (λ (l : Option Log). IfSome l (λ log. LogStands log (file_of 0 (w g a)))) c.in-Some.is c.requires.readable.live_stands in
-    live_taken c.args.header.now log c.args.active.now (file_of 0 (w g a)) c.args.from items c.add_run.new.run.entries.items c.add_run.result (is g a) c.requires.readable.sides.side stands
+    live_taken c.args.run.now.most c.args.header.now log c.args.active.now (file_of 0 (w g a)) c.args.from items c.add_run.new.run.entries.items c.add_run.result (is g a) c.requires.readable.sides.side stands
     (g.met.S.Store.reads_image c.args.store.now 0) c.requires.none.0
     (subst (λ (k : ℕ). IfSome (file_of k (w g a)) (λ f. (all : List Entry) → log_entries log f.bytes ≡ Ok all
-    → IsUndamaged (λ over. IsTaken over (items ++ drop (c.args.from - log.first) all) c.add_run.new.run.entries.items) c.add_run.result)) (is g a).side.file c.add_run.ensures.told)
+    → IsUndamaged (λ over. IsTaken c.args.run.now.most over (items ++ drop (c.args.from - log.first) all) c.add_run.new.run.entries.items) c.add_run.result)) (is g a).side.file c.add_run.ensures.told)
 
 pub returns-clause-numbers : goal.returns-clause-numbers
 returns-clause-numbers g c = λ went_on.

@@ -1,4 +1,4 @@
-use Rattle.std.proofs.Common.{◌≡◌, ◌-◌, ◌++◌, ℕ, false, Bool, List, Ok, Option, drop, sym, ap, subst}
+use Rattle.std.proofs.Common.{◌≡◌, ◌-◌, ◌∙◌, ◌++◌, ℕ, false, Bool, List, Ok, Option, drop, sym, ap, subst}
 use Rattle.std.specs.Prelude.{IfSome}
 use Rattle.odb_device.specs.World.{File, World, file_of}
 use Rattle.odb_device.proofs.Time.{run_end}
@@ -6,7 +6,7 @@ use Rattle.odb_reclog.specs.Told.{OnlyReads}
 use Rattle.odb_model.specs.declared.entry.Entry.{Entry}
 use Rattle.odb_transdb.specs.Header.{active_first}
 use Rattle.odb_transdb.specs.Walking.{log_entries, ArePlaced}
-use Rattle.odb_transdb.specs.Runs.{IsTaken}
+use Rattle.odb_transdb.specs.Runs.{IsRun, IsTaken}
 use Rattle.odb_transdb.proofs.Joining.{reads_then, both_some}
 use Rattle.odb_transdb.proofs.Running.{FrontOf, live_over, both_over}
 use Rattle.odb_transdb.proofs.run.run_sides.Given.{Over}
@@ -50,7 +50,7 @@ returns-then-branch-clause-told g c =
     let h = c.args.header.now in
     let o = file_of 0 (g.S.Outside.world c.args.store.now) in
     let items = c.run_live.new.run.entries.items in
-    live_over h c.args.active.now c.args.from c.requires.readable.sides.side o items (subst (λ (b : Bool). IfSome o (FrontOf h c.args.from items b)) c.if-branch.true c.in_ok-run_live.ensures.told)
+    live_over c.args.run.now.most h c.args.active.now c.args.from c.requires.readable.sides.side o items (subst (λ (b : Bool). IfSome o (FrontOf c.args.run.now.most h c.args.from items b)) c.if-branch.true c.in_ok-run_live.ensures.told)
 
 pub returns-clause-told : goal.returns-clause-told
 returns-clause-told g c =
@@ -58,15 +58,22 @@ returns-clause-told g c =
     let h = c.args.header.now in
     let active = c.args.active.now in
     let o = file_of 0 (w g a) in
+    let most = c.args.run.now.most in
+    let kept : c.run_live.new.run.most ≡ most = c.run_live.ensures.most in
     let over = c.in_ok-add_run.field-0 in
     let first = c.run_live.new.run.entries.items in
     let items = c.add_run.new.run.entries.items in
+    let left = c.add_run.new.run.left in
     let same = run_end 0 (λ f. f ≡ file_of 0 (w g a)) (w g a) (mid g a) c.run_live.ensures.run in
     let rest =
-    subst (λ (k : ℕ). IfSome (file_of k (mid g a)) (λ f. (all : List Entry) → log_entries active f.bytes ≡ Ok all → IsTaken over (first ++ drop (c.args.from - active.first) all) items)) c.requires.readable.sides.side.file c.in_ok-add_run.ensures.told in
-    both_over h active c.args.from c.requires.readable.sides.side o over c.add_run.new.run.left first items (λ (went_on : over ≡ false). (c.in_ok-add_run.ensures.part (ap Ok went_on)).1)
-    (subst (λ (b : Bool). IfSome o (FrontOf h c.args.from first b)) c.if-branch.false c.in_ok-run_live.ensures.told)
-    (subst (λ (p : Option File). IfSome p (λ f. (all : List Entry) → log_entries active f.bytes ≡ Ok all → IsTaken over (first ++ drop (c.args.from - active.first) all) items)) same rest)
+    subst (λ (k : ℕ). IfSome (file_of k (mid g a)) (λ f. (all : List Entry) → log_entries active f.bytes ≡ Ok all → IsTaken c.run_live.new.run.most over (first ++ drop (c.args.from - active.first) all) items)) c.requires.readable.sides.side.file
+    c.in_ok-add_run.ensures.told in
+    let its_rest =
+    subst (λ (m : ℕ). IfSome o (λ f. (all : List Entry) → log_entries active f.bytes ≡ Ok all → IsTaken m over (first ++ drop (c.args.from - active.first) all) items)) kept
+    (subst (λ (p : Option File). IfSome p (λ f. (all : List Entry) → log_entries active f.bytes ≡ Ok all → IsTaken c.run_live.new.run.most over (first ++ drop (c.args.from - active.first) all) items)) same rest) in
+    both_over most h active c.args.from c.requires.readable.sides.side o over left first items
+    (λ (went_on : over ≡ false). subst (λ (m : ℕ). IsRun m left items) (c.add_run.ensures.most ∙ kept) (c.in_ok-add_run.ensures.part (ap Ok went_on)).1)
+    (subst (λ (b : Bool). IfSome o (FrontOf most h c.args.from first b)) c.if-branch.false c.in_ok-run_live.ensures.told) its_rest
 
 pub returns-in_err-add_run-clause-some : goal.returns-in_err-add_run-clause-some
 returns-in_err-add_run-clause-some g c =

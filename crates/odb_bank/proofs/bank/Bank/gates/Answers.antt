@@ -1,8 +1,6 @@
 use Rattle.std.proofs.Common.{◌≡◌, ℕ, ◌^◌, ◌<◌, List, length, sym, ◌∙◌, ap, subst, arith, rules}
 use Rattle.std.specs.Prelude.{map}
 use Rattle.std.specs.List.{AllPairs}
-use Rattle.std.specs.Vec.{with_items}
-use Rattle.std.proofs.lemmas.List.{with_items_is, length-map}
 use Rattle.odb_device.specs.World.{file_of}
 use Rattle.odb_device.specs.Images.{EachImage}
 use Rattle.odb_device.specs.Moments.{Runs}

@@ -1,6 +1,6 @@
-use Rattle.std.proofs.Common.{◌≡◌, ℕ, ◌+◌, ◌<◌, ◌≤◌, List, length, Option, Some, None, Ok, sym, ap, subst, refl, arith}
+use Rattle.std.proofs.Common.{◌≡◌, ℕ, ◌+◌, ◌<◌, ◌≤◌, List, length, Option, Some, None, Ok, sym, ap, subst, arith}
 use Rattle.std.specs.Prelude.{IfSome, IfOk}
-use Rattle.std.proofs.lemmas.Option.{slice_get_within, get_or_from_slice_get}
+use Rattle.std.proofs.lemmas.Option.{get_or_from_slice_get}
 use Rattle.odb_values.specs.declared.value.Value.{Value}
 use Rattle.odb_device.specs.World.{file_of}
 use Rattle.odb_slots.specs.Slots.{slot_place}

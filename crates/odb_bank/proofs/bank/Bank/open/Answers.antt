@@ -1,8 +1,7 @@
-use Rattle.std.proofs.Common.{◌≡◌, ℕ, ◌^◌, ◌<◌, List, sym, ◌∙◌, subst, refl, arith}
+use Rattle.std.proofs.Common.{◌≡◌, ℕ, ◌^◌, ◌<◌, sym, ◌∙◌, subst, refl, arith}
 use Rattle.odb_device.specs.Calls.{Keeps}
 use Rattle.odb_device.specs.Told.{IfTold}
 use Rattle.odb_extent.specs.Standing.{limit_of, fields_of}
-use Rattle.odb_bank.specs.declared.kept.Kept.{Kept}
 use Rattle.odb_bank.specs.declared.phase.Phase.TheVariants.{Idle}
 use Rattle.odb_bank.specs.Fields.{bank_image}
 use Rattle.odb_bank.specs.Bank.{BankState}

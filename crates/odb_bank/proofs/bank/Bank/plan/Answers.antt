@@ -1,6 +1,5 @@
-use Rattle.std.proofs.Common.{◌≡◌, ℕ, List, length, Err, Ok, sym, ◌∙◌, ap, subst, refl, arith}
-use Rattle.std.specs.Prelude.{map, not}
-use Rattle.std.specs.List.{filter}
+use Rattle.std.proofs.Common.{◌≡◌, ℕ, List, length, Err, Ok, sym, subst, refl, arith}
+use Rattle.std.specs.Prelude.{map}
 use Rattle.std.proofs.lemmas.List.{length-map}
 use Rattle.odb_bank.specs.declared.begin.Plan.{Plan}
 use Rattle.odb_bank.specs.declared.error.BankError.TheVariants.{Limit}
@@ -9,7 +8,7 @@ use Rattle.odb_bank.specs.declared.latest.Addition.{Addition}
 use Rattle.odb_bank.specs.Additions.{record_of}
 use Rattle.odb_bank.specs.Bank.{BankState}
 use Rattle.odb_bank.specs.Begun.{IsReachAnswer, IsPlanAnswer}
-use Rattle.odb_bank.specs.Closing.{is_closing, closing_of, staying_of}
+use Rattle.odb_bank.specs.Closing.{closing_of, staying_of}
 use Rattle.odb_bank.specs.Filling.{AreItemsFor, AreKeptFor}
 use Rattle.odb_bank.specs.Room.{AreFree}
 use Rattle.odb_bank.proofs.Planning.{plan_lacks, plan_made}

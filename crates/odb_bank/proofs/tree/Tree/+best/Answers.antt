@@ -1,11 +1,10 @@
-use Rattle.std.proofs.Common.{◌≡◌, ℕ, ◌∷◌, ◌++◌, Bool, true, false, List, Option, Some, None, sym, ◌∙◌, ap, subst, refl, rules, arith}
+use Rattle.std.proofs.Common.{◌≡◌, ◌∷◌, ◌++◌, List, Option, sym, ◌∙◌, ap, subst}
 use Rattle.std.specs.Option.{option_copied}
-use Rattle.std.specs.declared.cmp.Ordering.{Ordering}
-use Rattle.std.specs.declared.cmp.Ordering.TheVariants.{Less, Equal, Greater}
+use Rattle.std.specs.declared.cmp.Ordering.TheVariants.{Less, Greater}
 use Rattle.odb_model.specs.State.{table_key_cmp}
 use Rattle.odb_bank.specs.declared.kept.Kept.{Kept}
 use Rattle.odb_bank.specs.History.{Key}
-use Rattle.odb_bank.specs.Order.{IsInOrder, IsCut, IsPut}
+use Rattle.odb_bank.specs.Order.{IsInOrder}
 use Rattle.odb_bank.specs.Tree.{items}
 use Rattle.odb_bank.specs.Best.{best_in, better_of}
 use Rattle.odb_bank.proofs.Searches.{best_before, best_behind, best_parts}

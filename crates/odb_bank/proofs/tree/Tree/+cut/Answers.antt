@@ -1,12 +1,8 @@
-use Rattle.std.proofs.Common.{◌≡◌, ℕ, ◌+◌, [], ◌∷◌, ◌++◌, Bool, true, false, List, length, Option, Some, None, sym, ◌∙◌, ap, subst, refl, rules, arith, length-append}
-use Rattle.std.specs.Option.{option_copied}
-use Rattle.std.specs.Ordering.{is_lt, is_eq}
-use Rattle.std.specs.declared.cmp.Ordering.{Ordering}
-use Rattle.std.specs.declared.cmp.Ordering.TheVariants.{Less, Equal, Greater}
+use Rattle.std.proofs.Common.{◌≡◌, ◌∷◌, ◌++◌, true, false, List, sym, ◌∙◌, ap, subst}
+use Rattle.std.specs.Ordering.{is_lt}
 use Rattle.odb_model.specs.State.{table_key_cmp}
 use Rattle.odb_bank.specs.declared.kept.Kept.{Kept}
-use Rattle.odb_bank.specs.History.{Key}
-use Rattle.odb_bank.specs.Order.{Each, IsInOrder, CanJoin, IsCut, IsPut}
+use Rattle.odb_bank.specs.Order.{IsInOrder, IsCut}
 use Rattle.odb_bank.specs.Tree.{items}
 use Rattle.odb_bank.proofs.InOrder.{cut_left, cut_right, cut_back, cut_front}
 use Rattle.odb_bank.proofs.tree.Tree.+cut.Goals as goal

@@ -1,15 +1,10 @@
-use Rattle.std.proofs.Common.{◌≡◌, ℕ, ◌+◌, [], ◌∷◌, ◌++◌, Bool, true, false, List, length, Option, Some, None, sym, ◌∙◌, ap, subst, refl, rules, arith, length-append}
+use Rattle.std.proofs.Common.{◌≡◌, ◌∷◌, ◌++◌, true, false, List, Some, None, sym, ◌∙◌, ap, subst}
 use Rattle.std.specs.Option.{option_copied}
-use Rattle.std.specs.Ordering.{is_lt, is_eq}
-use Rattle.std.specs.declared.cmp.Ordering.{Ordering}
-use Rattle.std.specs.declared.cmp.Ordering.TheVariants.{Less, Equal, Greater}
-use Rattle.odb_model.specs.State.{table_key_cmp}
+use Rattle.std.specs.Ordering.{is_eq}
 use Rattle.odb_bank.specs.declared.kept.Kept.{Kept}
-use Rattle.odb_bank.specs.History.{Key}
-use Rattle.odb_bank.specs.Order.{Each, IsInOrder, CanJoin, IsCut, IsPut}
+use Rattle.odb_bank.specs.Order.{Each, IsInOrder}
 use Rattle.odb_bank.specs.Tree.{items}
-use Rattle.std.specs.Prelude.{find, not, ◌==◌}
-use Rattle.std.specs.Ordering.{ordering_index}
+use Rattle.std.specs.Prelude.{find}
 use Rattle.odb_rowsource.specs.Stand.{stand, is_behind}
 use Rattle.odb_bank.specs.Best.{has_row_in, is_reached}
 use Rattle.odb_bank.proofs.Searches.{find_none, found_left, found_here, found_right, before_range, not_behind, past_range, reach_past, not_reached, stands_less, stands_greater, stands_inside}

@@ -1,14 +1,7 @@
-use Rattle.std.proofs.Common.{◌≡◌, ℕ, ◌+◌, [], ◌∷◌, ◌++◌, Bool, true, false, List, length, Option, Some, None, sym, ◌∙◌, ap, subst, refl, rules, arith, length-append}
-use Rattle.std.specs.Option.{option_copied}
-use Rattle.std.specs.Ordering.{is_lt, is_eq}
-use Rattle.std.specs.declared.cmp.Ordering.{Ordering}
-use Rattle.std.specs.declared.cmp.Ordering.TheVariants.{Less, Equal, Greater}
-use Rattle.odb_model.specs.State.{table_key_cmp}
+use Rattle.std.proofs.Common.{◌≡◌, ◌∷◌, ◌++◌, sym, ◌∙◌, ap, rules, arith, length-append}
 use Rattle.odb_bank.specs.declared.kept.Kept.{Kept}
-use Rattle.odb_bank.specs.History.{Key}
-use Rattle.odb_bank.specs.Order.{Each, IsInOrder, CanJoin, IsCut, IsPut}
 use Rattle.odb_bank.specs.Tree.{items}
-use Rattle.odb_bank.proofs.InOrder.{can_left, can_right, joined_left, joined_right}
+use Rattle.odb_bank.proofs.InOrder.{can_left, can_right}
 use Rattle.odb_bank.proofs.tree.Tree.+join.Goals as goal
 
 pub join-requires : goal.join-requires

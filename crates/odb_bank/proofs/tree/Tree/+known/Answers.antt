@@ -1,13 +1,7 @@
-use Rattle.std.proofs.Common.{◌≡◌, ℕ, ◌+◌, [], ◌∷◌, ◌++◌, Bool, true, false, List, length, Option, Some, None, sym, ◌∙◌, ap, subst, refl, rules, arith, length-append, Box}
-use Rattle.std.specs.Option.{option_copied}
+use Rattle.std.proofs.Common.{◌≡◌, ◌∷◌, ◌++◌, List, sym, ◌∙◌, ap, subst, Box}
 use Rattle.std.specs.declared.alloc.Global.{Global}
-use Rattle.std.specs.Ordering.{is_lt, is_eq}
-use Rattle.std.specs.declared.cmp.Ordering.{Ordering}
-use Rattle.std.specs.declared.cmp.Ordering.TheVariants.{Less, Equal, Greater}
-use Rattle.odb_model.specs.State.{table_key_cmp}
 use Rattle.odb_bank.specs.declared.kept.Kept.{Kept}
-use Rattle.odb_bank.specs.History.{Key}
-use Rattle.odb_bank.specs.Order.{Each, IsInOrder, CanJoin, IsCut, IsPut}
+use Rattle.odb_bank.specs.Order.{IsInOrder}
 use Rattle.odb_bank.specs.Tree.{items}
 use Rattle.std.specs.Prelude.{not}
 use Rattle.std.specs.List.{filter}

@@ -1,12 +1,5 @@
-use Rattle.std.proofs.Common.{◌≡◌, ℕ, ◌+◌, [], ◌∷◌, ◌++◌, Bool, true, false, List, length, Option, Some, None, sym, ◌∙◌, ap, subst, refl, rules, arith, length-append}
-use Rattle.std.specs.Option.{option_copied}
-use Rattle.std.specs.Ordering.{is_lt, is_eq}
-use Rattle.std.specs.declared.cmp.Ordering.{Ordering}
-use Rattle.std.specs.declared.cmp.Ordering.TheVariants.{Less, Equal, Greater}
-use Rattle.odb_model.specs.State.{table_key_cmp}
-use Rattle.odb_bank.specs.declared.kept.Kept.{Kept}
-use Rattle.odb_bank.specs.History.{Key}
-use Rattle.odb_bank.specs.Order.{Each, IsInOrder, CanJoin, IsCut, IsPut}
+use Rattle.std.proofs.Common.{◌≡◌, sym, subst, rules, arith}
+use Rattle.odb_bank.specs.Order.{IsInOrder}
 use Rattle.odb_bank.specs.Tree.{items}
 use Rattle.std.specs.Prelude.{map}
 use Rattle.std.proofs.lemmas.Grind.{common_steps}

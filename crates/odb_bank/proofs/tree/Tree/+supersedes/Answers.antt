@@ -1,16 +1,14 @@
-use Rattle.std.proofs.Common.{◌≡◌, ℕ, ◌∷◌, ◌++◌, Bool, true, false, List, Option, Some, None, sym, ◌∙◌, ap, subst, refl, rules, arith}
-use Rattle.std.specs.Option.{option_copied}
-use Rattle.std.specs.declared.cmp.Ordering.{Ordering}
-use Rattle.std.specs.declared.cmp.Ordering.TheVariants.{Less, Equal, Greater}
+use Rattle.std.proofs.Common.{◌≡◌, ◌∷◌, ◌++◌, List, sym, ◌∙◌, ap, subst}
+use Rattle.std.specs.declared.cmp.Ordering.TheVariants.{Less, Greater}
 use Rattle.odb_model.specs.State.{table_key_cmp}
 use Rattle.odb_bank.specs.declared.kept.Kept.{Kept}
 use Rattle.odb_bank.specs.History.{Key}
-use Rattle.odb_bank.specs.Order.{IsInOrder, IsCut, IsPut}
+use Rattle.odb_bank.specs.Order.{IsInOrder}
 use Rattle.odb_bank.specs.Tree.{items}
 use Rattle.std.specs.Prelude.{◌&&◌}
 use Rattle.std.specs.List.{list_any}
-use Rattle.odb_bank.specs.Closing.{supersedes, is_older, is_open}
-use Rattle.odb_bank.proofs.Searches.{any_before, any_behind, superseding_key, older_key}
+use Rattle.odb_bank.specs.Closing.{supersedes, is_open}
+use Rattle.odb_bank.proofs.Searches.{any_before, any_behind, superseding_key}
 use Rattle.odb_bank.proofs.tree.Tree.+supersedes.Goals as goal
 
 pub returns-in-Less : goal.returns-in-Less

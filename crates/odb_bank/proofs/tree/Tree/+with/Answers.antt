@@ -1,15 +1,11 @@
-use Rattle.std.proofs.Common.{◌≡◌, ℕ, ◌+◌, [], ◌∷◌, ◌++◌, Bool, true, false, List, length, Option, Some, None, sym, ◌∙◌, ap, subst, refl, rules, arith, length-append, Box}
-use Rattle.std.specs.Option.{option_copied}
+use Rattle.std.proofs.Common.{◌≡◌, [], ◌∷◌, ◌++◌, true, false, List, sym, ◌∙◌, ap, subst, Box}
 use Rattle.std.specs.declared.alloc.Global.{Global}
-use Rattle.std.specs.Ordering.{is_lt, is_eq}
-use Rattle.std.specs.declared.cmp.Ordering.{Ordering}
-use Rattle.std.specs.declared.cmp.Ordering.TheVariants.{Less, Equal, Greater}
+use Rattle.std.specs.Ordering.{is_lt}
 use Rattle.odb_model.specs.State.{table_key_cmp}
 use Rattle.odb_bank.specs.declared.kept.Kept.{Kept}
-use Rattle.odb_bank.specs.History.{Key}
-use Rattle.odb_bank.specs.Order.{IsUpTo, Each, IsInOrder, CanJoin, IsCut, IsPut}
+use Rattle.odb_bank.specs.Order.{IsUpTo, Each, IsInOrder, IsCut, IsPut}
 use Rattle.odb_bank.specs.Tree.{items}
-use Rattle.odb_bank.proofs.InOrder.{put_first, put_between, put_order, put_left, put_right, put_into_left, put_into_right}
+use Rattle.odb_bank.proofs.InOrder.{put_first, put_between, put_order, put_left, put_right}
 use Rattle.odb_bank.proofs.tree.Tree.+with.Goals as goal
 use Rattle.odb_bank.proofs.tree.Tree.+with.Goals.{in-Leaf, in-Fork+else-rank+else-is_before}
 

@@ -1,6 +1,6 @@
 use Rattle.std.proofs.Common.{◌≡◌, ◌<◌, ap, ◌∙◌, arith}
 use Rattle.odb_transdb.specs.Standing.{room_of}
-use Rattle.odb_model.specs.Book.{most_entries}
+use Rattle.odb_machine.specs.Book.{most_entries}
 use Rattle.odb_commit.specs.Parts.{Parts}
 use Rattle.odb_commit.proofs.Prepared.{sealing_full, sealing_ready}
 use Rattle.odb_commit.proofs.book.Book.prepare_writes.Goals as goal

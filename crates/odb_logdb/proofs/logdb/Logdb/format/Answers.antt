@@ -1,14 +1,15 @@
-use Rattle.std.proofs.Common.{◌≡◌, sym, subst, ap, ◌∙◌, arith}
+use Rattle.std.proofs.Common.{◌≡◌, sym, subst, ap, ◌∙◌}
 use Rattle.odb_device.specs.World.{file_of}
 use Rattle.odb_device.specs.Images.{EachImage}
-use Rattle.odb_extent.specs.Opened.{content_end}
 use Rattle.odb_extent.specs.Standing.{fields_of, IsNew, new_file}
+use Rattle.odb_reclog.specs.Standing.{Log, begun}
 use Rattle.odb_logdb.specs.declared.fields.LogFields.{LogFields}
 use Rattle.odb_logdb.specs.declared.state.ListState.TheVariants.{Known}
 use Rattle.odb_logdb.specs.Fields.{LIVE, fields_image, log_fields}
 use Rattle.odb_logdb.specs.Standing.{IsLogdb}
 use Rattle.odb_logdb.specs.Worlds.{IsNewLog}
-use Rattle.odb_logdb.proofs.Makes.{made_run, new_holds, new_made, new_is}
+use Rattle.odb_logdb.proofs.Makes.{new_holds, new_made, new_is}
+use Rattle.odb_logdb.proofs.Stood.{log_with}
 use Rattle.odb_logdb.proofs.logdb.Logdb.format.Given.{Over}
 use Rattle.odb_logdb.proofs.logdb.Logdb.format.Goals as goal
 use Rattle.odb_logdb.proofs.logdb.Logdb.format.Goals.{In_ok-extents}
@@ -26,34 +27,25 @@ module _ (g : Over) (c : In_ok-extents g) where
   new : EachImage (IsNew 1024 (fields_image (log_fields LIVE c.args.first))) (file_of 1 (g.S.Outside.world c.new_extents.new.store))
   new = subst (λ (x : LogFields). EachImage (IsNew 1024 (fields_image x)) (file_of 1 (g.S.Outside.world c.new_extents.new.store))) f_is c.in_ok-extents.ensures.holds
 
-pub returns-in_err-log-clause-run : goal.returns-in_err-log-clause-run
-returns-in_err-log-clause-run g c =
-    made_run (content_end 1) 1024 c.content_end.result c.args.first (g.S.Outside.world c.args.store.now) (g.S.Outside.world c.new_extents.new.store) (g.S.Outside.world c.open_log.new.store)
-    (omega (arith, c.content_end.ensures)) (omega (arith, c.content_end.ensures)) c.new_extents.ensures.run c.open_log.ensures.run
-
-pub returns-clause-run : goal.returns-clause-run
-returns-clause-run g c =
-    made_run (content_end 1) 1024 c.content_end.result c.args.first (g.S.Outside.world c.args.store.now) (g.S.Outside.world c.new_extents.new.store) (g.S.Outside.world c.open_log.new.store)
-    (omega (arith, c.content_end.ensures)) (omega (arith, c.content_end.ensures)) c.new_extents.ensures.run c.open_log.ensures.run
-
 pub returns-clause-holds : goal.returns-clause-holds
 returns-clause-holds g c =
     let a = (goal.at.returns-clause-holds g c).In_ok-extents in
-    new_holds c.args.first c.requires.0 c.requires.1 c.in_ok-extents.extents (made g a) c.in_ok-extents.ensures.limit.0 (fields g a) (g.S.Outside.world c.new_extents.new.store) (g.S.Outside.world c.open_log.new.store) c.content_end.result c.content_end.ensures
-    c.in_ok-extents.ensures.stands (new g a) c.open_log.ensures.run
+    new_holds c.args.first c.requires.0 c.requires.1 c.in_ok-extents.extents (made g a) c.in_ok-extents.ensures.limit.0 (fields g a) (g.S.Outside.world c.new_extents.new.store) c.in_ok-extents.ensures.stands (new g a)
+    (g.met.S.Store.reads_image c.new_extents.new.store 1) c.content_end.result c.content_end.ensures
 
 pub returns-clause-made : goal.returns-clause-made
 returns-clause-made g c =
     let a = (goal.at.returns-clause-made g c).In_ok-extents in
-    let w2 = g.S.Outside.world c.open_log.new.store in
-    subst (λ (x : LogFields). IsNewLog c.args.first (record { extents = c.in_ok-extents.extents; fields = x; log = c.in_ok-log.log; state = Known }) w2) (sym c.new-fields.ensures)
-    (new_made c.args.first c.requires.0 c.requires.1 c.in_ok-extents.extents (made g a) c.in_ok-extents.ensures.limit.0 (fields g a) (g.S.Outside.world c.new_extents.new.store) w2 c.content_end.result c.content_end.ensures
-    c.in_ok-extents.ensures.stands (new g a) c.open_log.ensures.run c.in_ok-log.log c.in_ok-log.ensures.opened (g.met.S.Store.reads_image c.open_log.new.store 1))
+    let w = g.S.Outside.world c.new_extents.new.store in
+    subst (λ (x : Log). IsNewLog c.args.first (log_with c.in_ok-extents.extents c.new-fields.result x Known) w) (sym c.begin-log.ensures.log)
+    (subst (λ (x : LogFields). IsNewLog c.args.first (log_with c.in_ok-extents.extents x (begun 1 1024 c.content_end.result c.args.first) Known) w) (sym c.new-fields.ensures)
+    (new_made c.args.first c.requires.0 c.requires.1 c.in_ok-extents.extents (made g a) c.in_ok-extents.ensures.limit.0 (fields g a) w c.in_ok-extents.ensures.stands (new g a) (g.met.S.Store.reads_image c.new_extents.new.store 1) c.content_end.result
+    c.content_end.ensures))
 
 pub invariant_of-result : goal.invariant_of-result
 invariant_of-result g c =
     let a = (goal.at.invariant_of-result g c).In_ok-extents in
-    let w2 = g.S.Outside.world c.open_log.new.store in
-    subst (λ (x : LogFields). IsLogdb (record { extents = c.in_ok-extents.extents; fields = x; log = c.in_ok-log.log; state = Known })) (sym c.new-fields.ensures)
-    (new_is c.args.first c.requires.0 c.requires.1 c.in_ok-extents.extents (made g a) c.in_ok-extents.ensures.limit.0 (fields g a) (g.S.Outside.world c.new_extents.new.store) w2 c.content_end.result c.content_end.ensures
-    c.in_ok-extents.ensures.stands (new g a) c.open_log.ensures.run c.in_ok-log.log c.in_ok-log.ensures.opened (g.met.S.Store.reads_image c.open_log.new.store 1))
+    subst (λ (x : Log). IsLogdb (log_with c.in_ok-extents.extents c.new-fields.result x Known)) (sym c.begin-log.ensures.log)
+    (subst (λ (x : LogFields). IsLogdb (log_with c.in_ok-extents.extents x (begun 1 1024 c.content_end.result c.args.first) Known)) (sym c.new-fields.ensures)
+    (new_is c.args.first c.requires.0 c.requires.1 c.in_ok-extents.extents (made g a) c.in_ok-extents.ensures.limit.0 (fields g a) (g.S.Outside.world c.new_extents.new.store) c.in_ok-extents.ensures.stands (new g a)
+    (g.met.S.Store.reads_image c.new_extents.new.store 1) c.content_end.result c.content_end.ensures))

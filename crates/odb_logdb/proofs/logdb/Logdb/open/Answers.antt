@@ -12,6 +12,7 @@ use Rattle.odb_logdb.specs.Opened.{MOST, opened}
 use Rattle.odb_logdb.specs.Standing.{LogState}
 use Rattle.odb_logdb.specs.Answers.{IsOpenAnswer}
 use Rattle.odb_logdb.proofs.Based.{sync_run, open_run, is_kept, kept_told, told_kept}
+use Rattle.odb_logdb.proofs.Gates.{gate_still, gate_synced}
 use Rattle.odb_logdb.proofs.Opens.{pair_refused, none_refused}
 use Rattle.odb_logdb.proofs.logdb.Logdb.open.Given.{Over}
 use Rattle.odb_logdb.proofs.logdb.Logdb.open.Goals as goal
@@ -69,3 +70,14 @@ returns-in-None-clause-answer g c =
 
 pub returns-in-None-clause-leaves : goal.returns-in-None-clause-leaves
 returns-in-None-clause-leaves g c = sync_run (g.S.Outside.world c.args.store.now) (g.S.Outside.world c.open_extents.new.store) c.open_extents.ensures.run
+
+pub returns-in_err-extents-clause-gate : goal.returns-in_err-extents-clause-gate
+returns-in_err-extents-clause-gate g c = gate_still (g.S.Outside.world c.args.store.now) (g.S.Outside.world c.open_extents.new.store) c.open_extents.ensures.run
+
+pub returns-in-Some-clause-gate : goal.returns-in-Some-clause-gate
+returns-in-Some-clause-gate g c =
+    let disk = on_disk g (goal.at.returns-in-Some-clause-gate g c).In_ok-extents in
+    gate_synced (g.S.Outside.world c.args.store.now) (g.S.Outside.world c.open_extents.new.store) (g.S.Outside.world c.open_content.new.store) (g.met.S.Store.reads_image c.args.store.now 1) c.open_extents.ensures.run disk c.open_content.ensures.gate
+
+pub returns-in-None-clause-gate : goal.returns-in-None-clause-gate
+returns-in-None-clause-gate g c = gate_still (g.S.Outside.world c.args.store.now) (g.S.Outside.world c.open_extents.new.store) c.open_extents.ensures.run

@@ -1,5 +1,5 @@
 use Rattle.std.proofs.Common.{ℕ, List, [], ◌∷◌, ◌++◌, sym, ap, subst, ◌∙◌}
-use Rattle.odb_model.specs.Play.{machine_after}
+use Rattle.odb_machine.specs.Play.{machine_after}
 use Rattle.odb_play.specs.LineFront.{read_of_ended}
 use Rattle.odb_play.specs.Played.{LineEnds, BytesEnd}
 use Rattle.odb_play.proofs.Lines.{line_ended}

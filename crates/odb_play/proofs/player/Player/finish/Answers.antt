@@ -1,7 +1,7 @@
 use Rattle.std.proofs.Common.{List, ℕ, subst, ◌∙◌, ap, arith}
 use Rattle.std.specs.Vec.{vec_len}
 use Rattle.odb_model.specs.Script.{open_line}
-use Rattle.odb_model.specs.Play.{machine_after}
+use Rattle.odb_machine.specs.Play.{machine_after}
 use Rattle.odb_play.specs.LineFront.{read_of_last}
 use Rattle.odb_play.specs.Played.{LineEnds}
 use Rattle.odb_play.proofs.Ends.{finish_none, finish_line, open_none, open_some, empty, not_empty}

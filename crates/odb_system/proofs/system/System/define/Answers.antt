@@ -1,4 +1,4 @@
-use Rattle.std.proofs.Common.{◌≡◌, ◌+◌, ◌<◌, ℕ, false, List, length, Option, Some, None, is_some, refl, ap, subst, sym, ◌∙◌, arith}
+use Rattle.std.proofs.Common.{◌≡◌, ◌+◌, ◌<◌, ◌≤◌, ℕ, false, List, length, Option, Some, None, is_some, refl, ap, subst, sym, ◌∙◌, arith}
 use Rattle.odb_device.specs.World.{World}
 use Rattle.odb_model.specs.declared.reply.Reply.{Reply}
 use Rattle.odb_model.specs.declared.write.Write.{Write}
@@ -7,11 +7,14 @@ use Rattle.odb_model.specs.State.{State}
 use Rattle.odb_transdb.specs.Header.{first_held}
 use Rattle.odb_keytable.specs.Committed.{Committed}
 use Rattle.odb_txn.specs.Transaction.{Kept}
-use Rattle.odb_commit.specs.Parts.{Parts, sealing_of, entry_after}
+use Rattle.odb_model.specs.declared.entry.Entry.{Entry}
+use Rattle.odb_machine.specs.Book.{most_entries}
+use Rattle.odb_commit.specs.Parts.{Parts, count, sealing_of, entry_after}
+use Rattle.odb_system.specs.Sealed.{CanCarry}
 use Rattle.odb_system.specs.Held.{Held, HeldDefines, without_place, session_at}
 use Rattle.odb_system.proofs.Holding.{held_on, session_here}
-use Rattle.odb_system.proofs.Behind.{aligned_out}
-use Rattle.odb_system.proofs.Prepared.{Came, came, defines_planned, first_left, first_carried}
+use Rattle.odb_system.proofs.Behind.{aligned_out, few_to_seal}
+use Rattle.odb_system.proofs.Prepared.{Came, came, defines_planned, can_carry, few_left, few_carried, first_left, first_carried}
 use Rattle.odb_system.proofs.system.System.define.Goals as goal
 
 none_is : (o : Option Kept) → is_some o ≡ false → o ≡ None
@@ -29,11 +32,17 @@ invariant_of-self-2 g c =
     let old : World = g.H.Outside.world c.args.host.now in
     let now : World = g.H.Outside.world c.carry_out.new.store in
     let held : Held = record { book = without_place b; sessions = c.self.inside.sessions.items; rows = c.self.inside.rows.state } in
+    let entry : Entry = entry_after b (c.args.at + 1) c.in-Ok.writes in
+    let can : CanCarry mid c.prepare_writes-prepared.result =
+    can_carry (sealing_of b entry) c.prepare_writes-prepared.result b mid (few_to_seal b entry) c.prepare_writes-prepared.ensures.prepared c.prepare_writes-prepared.ensures.left in
+    let few : count c.carry_out.new.book ≤ most_entries =
+    few_carried c.prepare_writes-prepared.result c.carry_out.result mid c.carry_out.new.book c.planned_writes.new.rows c.carry_out.new.rows old now can c.carry_out.ensures.aligned c.carry_out.ensures.carried
+    (few_left c.prepare_writes-prepared.result b mid c.prepare_writes-prepared.ensures.left c.self.invariant.0.few) in
     let begun : first_held mid.transdb.header ≡ 1 =
     first_left c.prepare_writes-prepared.result b mid c.prepare_writes-prepared.ensures.left c.self.invariant.0.first in
     let first : first_held c.carry_out.new.book.transdb.header ≡ 1 =
     first_carried c.prepare_writes-prepared.result c.carry_out.result mid c.carry_out.new.book c.planned_writes.new.rows c.carry_out.new.rows old now c.carry_out.ensures.carried begun in (
-      held_on held (without_place c.carry_out.new.book) c.carry_out.new.rows.state c.self.invariant.0 (aligned_out c.carry_out.new.book c.carry_out.ensures.aligned) first c.carry_out.ensures.fit.keyed,
+      held_on held (without_place c.carry_out.new.book) c.carry_out.new.rows.state c.self.invariant.0 (aligned_out c.carry_out.new.book c.carry_out.ensures.aligned) few first c.carry_out.ensures.fit.keyed,
       c.carry_out.ensures.fit.waiting,
     )
 

@@ -39,5 +39,5 @@ returns-in-Err-clause-settles g c = λ room all since. record {
   mid = g.S.Outside.world c.settle.new.store;
   settled = c.settle.new.self;
   settling = c.settle.ensures.run all since;
-  rest = inr (record { fault = refl; same = refl; nothing = refl; rose = c.in-Err.ensures.cause });
+  rest = inr (record { fault = refl; same = refl; nothing = refl; unsettled = c.in-Err.ensures.unsettled; rose = c.in-Err.ensures.cause });
 }

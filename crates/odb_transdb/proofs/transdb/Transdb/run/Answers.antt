@@ -12,7 +12,7 @@ use Rattle.odb_transdb.specs.Standing.{Db, IsOfSide}
 use Rattle.odb_transdb.specs.Turning.{StandsSince}
 use Rattle.odb_transdb.specs.contracts.transdb.Transdb.{the_view}
 use Rattle.odb_transdb.specs.Walking.{sides_read, ArePlaced, CanStep}
-use Rattle.odb_transdb.specs.Runs.{run_of, IsUndamaged, IsLastRun}
+use Rattle.odb_transdb.specs.Runs.{run_upto, IsUndamaged, IsLastRun}
 use Rattle.odb_transdb.proofs.Heading.{since_log}
 use Rattle.odb_transdb.proofs.Running.{given_run, given_last_run, never_ended}
 use Rattle.odb_transdb.proofs.Placed.{active_placed, live_placed}
@@ -27,11 +27,11 @@ module _ (g : Over) (c : After-run_sides g) where
   o = file_of 0 (g.S.Outside.world c.args.store.now)
 
   abbrev Told : Result (Unit {0}) TransdbError → Type 0
-  Told r = IfSome o (λ f. (all : List Entry) → sides_read c.args.self.now.header f.bytes ≡ Ok all → IsUndamaged (λ _. c.run_sides.new.run.entries.items ≡ run_of (drop (c.args.from - first_held c.args.self.now.header) all)) r)
+  Told r = IfSome o (λ f. (all : List Entry) → sides_read c.args.self.now.header f.bytes ≡ Ok all → IsUndamaged (λ _. c.run_sides.new.run.entries.items ≡ run_upto c.args.most_writes (drop (c.args.from - first_held c.args.self.now.header) all)) r)
 
   told : Told c.run_sides.result
   told =
-      subst (λ (d : Db). IfSome o (λ f. (all : List Entry) → sides_read d.header f.bytes ≡ Ok all → IsUndamaged (λ _. c.run_sides.new.run.entries.items ≡ run_of (drop (c.args.from - first_held d.header) all)) c.run_sides.result))
+      subst (λ (d : Db). IfSome o (λ f. (all : List Entry) → sides_read d.header f.bytes ≡ Ok all → IsUndamaged (λ _. c.run_sides.new.run.entries.items ≡ run_upto c.args.most_writes (drop (c.args.from - first_held d.header) all)) c.run_sides.result))
       c.self.view_is c.run_sides.ensures.told
 
   -- the header that the value has
@@ -74,21 +74,21 @@ pub returns-in-Ok-clause-entries : goal.returns-in-Ok-clause-entries
 returns-in-Ok-clause-entries g c = λ stands.
     let a = (goal.at.returns-in-Ok-clause-entries g c).After-run_sides in
     let db = c.args.self.now in
-    subst (λ (l : List Entry). IfSome (o g a) (λ f. l ≡ run_of (drop (c.args.from - first_held db.header) (entries_in (Some f))))) (sym c.new.ensures)
-    (given_run db c.args.from c.run_sides.new.run.entries.items (o g a) stands (g.met.S.Store.reads_image c.args.store.now 0) (subst (Told g a) c.in-Ok.is (told g a)))
+    subst (λ (l : List Entry). IfSome (o g a) (λ f. l ≡ run_upto c.args.most_writes (drop (c.args.from - first_held db.header) (entries_in (Some f))))) (sym c.new.ensures)
+    (given_run c.args.most_writes db c.args.from c.run_sides.new.run.entries.items (o g a) stands (g.met.S.Store.reads_image c.args.store.now 0) (subst (Told g a) c.in-Ok.is (told g a)))
 
 pub returns-in-Ok-clause-last : goal.returns-in-Ok-clause-last
 returns-in-Ok-clause-last g c = λ all since.
     let a = (goal.at.returns-in-Ok-clause-last g c).After-run_sides in
     let db = c.args.self.now in
-    subst (λ (l : List Entry). IfSome (o g a) (λ f. IsLastRun c.args.from db.active.next all l)) (sym c.new.ensures)
-    (given_last_run db c.args.from c.run_sides.new.run.entries.items all (lawful g a) c.requires.from (o g a) since (g.met.S.Store.reads_image c.args.store.now 0) (subst (Told g a) c.in-Ok.is (told g a)))
+    subst (λ (l : List Entry). IfSome (o g a) (λ f. IsLastRun c.args.most_writes c.args.from db.active.next all l)) (sym c.new.ensures)
+    (given_last_run c.args.most_writes db c.args.from c.run_sides.new.run.entries.items all (lawful g a) c.requires.from (o g a) since (g.met.S.Store.reads_image c.args.store.now 0) (subst (Told g a) c.in-Ok.is (told g a)))
 
 -- a told file never refuses
 module _ (g : Over) (c : After-run_sides g) (at : ℕ) (is : c.run_sides.result ≡ Err (Damaged at)) (Q : File → Type 0) where
   never : IfSome (file_of 0 (g.S.Outside.world c.args.store.now)) Q
   never =
-      never_ended c.args.self.now c.args.from c.run_sides.new.run.entries.items c.requires.stands.0 (lawful g c) Q (o g c) c.requires.stands.1 (g.met.S.Store.reads_image c.args.store.now 0) (subst (Told g c) is (told g c))
+      never_ended c.args.most_writes c.args.self.now c.args.from c.run_sides.new.run.entries.items c.requires.stands.0 (lawful g c) Q (o g c) c.requires.stands.1 (g.met.S.Store.reads_image c.args.store.now 0) (subst (Told g c) is (told g c))
 
 pub returns-in-Err-Damaged-clause-entries : goal.returns-in-Err-Damaged-clause-entries
 returns-in-Err-Damaged-clause-entries g c = λ stands. never g (goal.at.returns-in-Err-Damaged-clause-entries g c).After-run_sides c.in-Err-Damaged.field-0-0 (c.in-Err-Damaged.is ∙ ap Err c.in-Err-Damaged.field-0-is) _

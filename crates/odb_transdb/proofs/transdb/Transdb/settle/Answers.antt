@@ -1,4 +1,4 @@
-use Rattle.std.proofs.Common.{◌≡◌, ℕ, List, refl, sym, ap, subst}
+use Rattle.std.proofs.Common.{◌≡◌, ℕ, false, List, refl, sym, ap, subst}
 use Rattle.odb_device.specs.World.{World, file_of}
 use Rattle.odb_device.specs.Images.{EachImage, ReadsImage}
 use Rattle.odb_pair.specs.Places.{Holds as PairHolds}
@@ -10,7 +10,7 @@ use Rattle.odb_transdb.specs.Turning.{StandsSince, RunsSettling}
 use Rattle.odb_transdb.specs.contracts.transdb.Transdb.{the_view}
 use Rattle.odb_transdb.proofs.Heading.{since_pair, put_only}
 use Rattle.odb_transdb.proofs.Cleaning.{same_run, same_left, same_done, same_stands}
-use Rattle.odb_transdb.proofs.Composing.{by_result, ok_with, still_settled, still_stands}
+use Rattle.odb_transdb.proofs.Composing.{by_result, err_with, ok_with, still_settled, still_stands}
 use Rattle.odb_transdb.proofs.transdb.Transdb.settle.Given.{Over}
 use Rattle.odb_transdb.proofs.transdb.Transdb.settle.Goals as goal
 use Rattle.odb_transdb.proofs.transdb.Transdb.settle.Goals.{Then-settled, After-put}
@@ -114,3 +114,8 @@ returns-clause-stands g c =
     let stands = c.requires.stands in
     ok_with (c.put.new.self ≡ after_put c.self.inside.pair (value g a)) (EachImage (PairHolds (value g a)) (file_of c.self.inside.pair.file (now g a))) (Stands (made g a) (file_of 0 (now g a))) c.put.result
     (λ done holds. done_stands g a stands.0 stands.1 done holds) c.put.ensures.counts c.put.ensures.holds
+
+pub returns-clause-unsettled : goal.returns-clause-unsettled
+returns-clause-unsettled g c =
+    let a = (goal.at.returns-clause-unsettled g c).After-put in
+    err_with (LeavesUnsettled (value g a) c.self.inside.pair c.put.new.self) (c.put.new.self.settled ≡ false) c.put.result (λ left. left.settled) c.put.ensures.unsettled

@@ -162,3 +162,6 @@ returns-in-Err-clause-run g c = λ here all given.
       run = turn_run (db g a) (is g a) clean_now (few g a) all (value g a) (value_is g a) (w g a) (now g a) c.put.ensures.run since;
       stands = left_since (db g a) (is g a) clean_now (few g a) all (value g a) (value_is g a) (w g a) (now g a) c.put.ensures.run since (reads g a) (pair g a) (its g a) c.in-Err.ensures.unsettled;
     })
+
+pub returns-in-Err-clause-unsettled : goal.returns-in-Err-clause-unsettled
+returns-in-Err-clause-unsettled g c = λ _. c.in-Err.ensures.unsettled.settled

@@ -1,0 +1,3 @@
+pub mod Upkeep
+pub mod Runs
+pub mod Said

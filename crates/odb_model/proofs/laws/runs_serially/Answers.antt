@@ -1,8 +1,0 @@
-use Rattle.odb_model.proofs.Runs.{answered_first, all_serial}
-use Rattle.odb_model.proofs.laws.runs_serially.Goals as goal
-
-pub returns-clause-first : goal.returns-clause-first
-returns-clause-first c = answered_first
-
-pub returns-clause-serial : goal.returns-clause-serial
-returns-clause-serial c = all_serial
