@@ -628,6 +628,11 @@ class Model:
         self.active, self.is_clean, self.room = 1 - self.active, False, self.side
         return f"TURNED {self.active} {len(self.history) + 1}"
 
+    def told(self):
+        """What STATE tells: there is no LOGDB and no copy. The side that was active begins at number 1."""
+        other = "CLEAN" if self.is_clean else "LIVE"
+        return [f"NUMBER {len(self.history)}", f"TRANSDB {self.active} {other} 1", "LOGDB OUT"]
+
     def seal(self, session, writes):
         """Puts an entry behind the others."""
         if len(self.history) >= MOST_ENTRIES:

@@ -12,7 +12,7 @@ hello
 1 START
 1 insert into kv values (1, -10)
 1 INSERT INTO KV VALUES (1,11)
-! STATE
+! CLEAN
 1 SELECT * FROM T
 1 SELECT X FROM KV
 1 UPDATE KV SET K = 2

@@ -3,3 +3,4 @@ pub mod Choices
 pub mod Matches
 pub mod Simple
 mod Worked
+pub mod Only

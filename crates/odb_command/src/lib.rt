@@ -6,6 +6,7 @@
 mod choice;
 mod command;
 mod error;
+mod laws;
 mod number;
 mod read;
 mod words;
@@ -13,4 +14,5 @@ mod words;
 pub use choice::{Choice, Choices};
 pub use command::Command;
 pub use error::CommandError;
+pub use laws::asks_for_one;
 pub use read::command_of;

@@ -1,6 +1,6 @@
 -- Writes that were laid over already change nothing more.
-use Rattle.std.proofs.Common.{◌≡◌, ℕ, zero, suc, ◌+◌, ◌<◌, Bool, true, false, cond, List, [], ◌∷◌, ◌++◌, take, length, get_or, refl, sym, ap, subst, ◌∙◌, ◌⊎◌, inl, inr, Option, None, Some, Result, Ok, Err}
-use Rattle.std.proofs.lemmas.List.{take_more}
+use Rattle.std.proofs.Common.{◌≡◌, ℕ, zero, suc, ◌+◌, ◌<◌, ◌≤◌, Bool, true, false, cond, List, [], ◌∷◌, ◌++◌, take, drop, length, reverse, arith, length-append, get_or, refl, sym, ap, ◌∙◌, ◌⊎◌, inl, inr, Option, None, Some, Result, Ok, Err}
+use Rattle.std.proofs.lemmas.List.{take_more, reverse-append}
 use Rattle.std.specs.Prelude.{OnErr, slice_get}
 use Rattle.std.specs.Ordering.{eq_by_cmp}
 use Rattle.std.specs.FinMap.{get, same_map}
@@ -9,7 +9,8 @@ use Rattle.odb_model.specs.declared.write.Write.{Write}
 use Rattle.odb_model.specs.declared.entry.Entry.{Entry}
 use Rattle.odb_model.specs.declared.table_key.TableKey.{TableKey}
 use Rattle.odb_model.specs.State.{State, table_key_cmp, table_key_of, changed, after_writes, replay_from}
-use Rattle.odb_model.proofs.Replay.{table_key_cmp_total, table_key_cmp_exact, get-changed_at}
+use Rattle.odb_keytable.specs.Committed.{state_with, waiting_with}
+use Rattle.odb_model.proofs.Replay.{replay_from-append, table_key_cmp_total, table_key_cmp_exact, get-changed_at}
 
 -- the row at a table key after writes, where it was this one before
 abbrev pub last_row : TableKey → List Write → Option (List Value) → Option (List Value)
@@ -66,14 +67,62 @@ pub on_err : {A E : Type 0} (r : Result A E) (P : Type 0) → P → OnErr r P
 on_err (Ok x) P p = tt
 on_err (Err e) P p = p
 
--- a state over which the first entry lies as over another is the same after all entries
-pub folded_again : (s t : State) (waits : List Entry) (e : Entry) → Some e ≡ slice_get waits 0 → after_writes t e.writes ≡ after_writes s e.writes
-    → replay_from t waits ≡ replay_from s waits
-folded_again s t [] e first same = cc
-folded_again s t (x ∷ waits) e first same =
+-- the last write goes in first, where the writes are turned round
+pub after_writes-popped : (s : State) (ws vs : List Write) (w : Write) → ws ≡ vs ++ w ∷ []
+    → after_writes (changed s (table_key_of w) w.row) (reverse vs) ≡ after_writes s (reverse ws)
+after_writes-popped s ws vs w e = sym (ap (λ xs. after_writes s (reverse xs)) e ∙ ap (after_writes s) (reverse-append vs (w ∷ [])))
+
+-- an entry whose writes are begun has left those that wait
+pub begun_first : (s : State) (begun : List Write) (waits rest : List Entry) (e : Entry) → Some e ≡ slice_get waits 0 → rest ≡ drop 1 waits → reverse begun ≡ e.writes
+    → state_with s begun rest ≡ replay_from s waits
+begun_first s begun [] rest e first left turned = cc
+begun_first s begun (x ∷ waits) rest e first left turned =
     let one : e ≡ x = cc in
-    ap (λ u. replay_from u waits) (subst (λ (y : Entry). after_writes t y.writes ≡ after_writes s y.writes) one same)
+    ap (λ ws. replay_from (after_writes s ws) rest) (turned ∙ ap (λ (y : Entry). y.writes) one)
+    ∙ ap (replay_from (after_writes s x.writes)) left
 
 pub none_waits : (waits : List Entry) → None ≡ slice_get waits 0 → waits ≡ []
 none_waits [] none = refl
 none_waits (x ∷ waits) none = cc
+
+-- one entry less waits, whatever is left of its writes
+pub fewer_wait : (begun : List Write) (waits rest : List Entry) (e : Entry) → Some e ≡ slice_get waits 0 → rest ≡ drop 1 waits → waiting_with begun rest ≤ length waits
+fewer_wait begun [] rest e first left = cc
+fewer_wait [] (x ∷ waits) rest e first left = omega (arith, ap length left)
+fewer_wait (w ∷ begun) (x ∷ waits) rest e first left = omega (arith, ap length left)
+
+-- as many wait, where no more writes of an entry are left
+pub no_more_wait : (begun left : List Write) (waits : List Entry) → length left ≤ length begun → waiting_with left waits ≤ waiting_with begun waits
+no_more_wait [] [] waits le = omega arith
+no_more_wait [] (w ∷ left) waits le = absurd (omega (arith, le))
+no_more_wait (w ∷ begun) [] waits le = omega arith
+no_more_wait (w ∷ begun) (x ∷ left) waits le = omega arith
+
+-- one entry more
+pub one_waits_more : (begun : List Write) (waits more : List Entry) (e : Entry) → more ≡ waits ++ e ∷ [] → waiting_with begun more ≡ waiting_with begun waits + 1
+one_waits_more [] waits more e is = omega (arith, ap length is, length-append waits (e ∷ []))
+one_waits_more (w ∷ begun) waits more e is = omega (arith, ap length is, length-append waits (e ∷ []))
+
+pub waits_within : (begun : List Write) (waits : List Entry) → length waits ≤ waiting_with begun waits
+waits_within [] waits = omega arith
+waits_within (w ∷ begun) waits = omega arith
+
+pub state_with_more : (s : State) (begun : List Write) (waits more : List Entry) (e : Entry) → more ≡ waits ++ e ∷ [] → state_with s begun more ≡ after_writes (state_with s begun waits) e.writes
+state_with_more s begun waits more e is =
+    let t : State = after_writes s (reverse begun) in
+    ap (replay_from t) is ∙ replay_from-append t waits (e ∷ [])
+
+-- where nothing waits the table is the state
+pub nothing_waits : (s : State) (begun : List Write) (waits : List Entry) → waiting_with begun waits ≡ 0 → state_with s begun waits ≡ s
+nothing_waits s [] [] none = refl
+nothing_waits s [] (e ∷ waits) none = absurd (omega (arith, none))
+nothing_waits s (w ∷ begun) waits none = absurd (omega (arith, none))
+
+-- how many wait, by whether writes of an entry are left
+pub waiting_none : (begun : List Write) (waits : List Entry) → length begun ≡ 0 → length waits ≡ waiting_with begun waits
+waiting_none [] waits none = refl
+waiting_none (w ∷ begun) waits none = absurd (omega (arith, none))
+
+pub waiting_some : (begun : List Write) (waits : List Entry) → 0 < length begun → length waits + 1 ≡ waiting_with begun waits
+waiting_some [] waits some = absurd (omega (arith, some))
+waiting_some (w ∷ begun) waits some = refl

@@ -1,10 +1,11 @@
 //! The rows that stand committed.
-ghost use Rattle.std.specs.Prelude.{◌≡◌, ◌+◌, ◌^◌, ◌<◌, ◌≤◌, [], length, OnOk, OnErr};
+ghost use Rattle.std.specs.Prelude.{◌≡◌, ◌+◌, ◌^◌, ◌<◌, ◌≤◌, OnOk, OnErr, reverse};
 ghost use Rattle.std.specs.FinMap as map;
-ghost use Rattle.odb_model.specs.State.{after_writes, replay_from};
+ghost use Rattle.odb_model.specs.State.{after_writes};
+ghost use Rattle.odb_keytable.specs.Committed.{state_with, waiting_with};
 
 use crate::{KeyTable, Pending, Placed, Rows, TableError};
-use odb_model::Entry;
+use odb_model::{Entry, Write};
 use std::alloc::Global;
 use std::marker::Model;
 
@@ -12,24 +13,30 @@ use std::marker::Model;
 /// wait to be folded into it. Contracts see the state after all of the entries, and how many wait.
 ///
 /// A commit adds its entry by `push`, which takes no memory and so can't fail once the commit is
-/// durable. `settle` folds what waits, before rows are read.
+/// durable. `settle` moves what waits into the table, before rows are read: no write is copied.
 #[derive(Drop)]
 pub struct CommittedRows {
     table: KeyTable,
+    /// Where memory was missing in the midst of an entry, its writes that aren't in the table, the
+    /// next one last.
+    begun: Vec<Write>,
     pending: Pending,
 }
 
 impl Model for CommittedRows {
-    ghost use Rattle.std.specs.Prelude.{length};
-    ghost use Rattle.odb_model.specs.State.{replay_from};
-    ghost use Rattle.odb_keytable.specs.Committed.{Committed, committed_code};
+    ghost use Rattle.std.specs.Prelude.{◌<◌, ◌^◌};
+    ghost use Rattle.odb_keytable.specs.Committed.{Committed, committed_code, state_with, waiting_with};
 
     ghost Value = { Committed };
 
     ghost coded = { committed_code };
 
-    ghost view = { λ a.
-        record { state = replay_from a.table a.pending; waiting = length a.pending } };
+    ghost view = { λ a. record {
+      state = state_with a.table a.begun.items a.pending;
+      waiting = waiting_with a.begun.items a.pending;
+    } };
+
+    ghost invariant = { λ a. waiting_with a.begun.items a.pending < 2 ^ 63 };
 }
 
 impl CommittedRows {
@@ -39,6 +46,7 @@ impl CommittedRows {
     {
         CommittedRows {
             table: KeyTable::new(alloc),
+            begun: Vec::new(alloc),
             pending: Pending::new(alloc),
         }
     }
@@ -62,18 +70,22 @@ impl CommittedRows {
     pub fn waiting(&self) -> usize
         ensures { result ≡ self.now.waiting }
     {
-        self.pending.len()
+        if self.begun.is_empty() {
+            self.pending.len()
+        } else {
+            self.pending.len() + 1
+        }
     }
 
     /// Folds the entries that wait into the table, in the time of a search for each of their
     /// writes. The error is want of memory: then some of them may wait still, and the state is the
     /// same.
-    pub fn settle(&mut self, alloc: Global) -> Result<(), TableError>
+    pub fn settle(&mut self, _alloc: Global) -> Result<(), TableError>
         ensures ok { OnOk result (self.new ≡ record { state = self.old.state; waiting = 0 }) }
         ensures err { OnErr result (self.new.state ≡ self.old.state) }
         ensures fewer { self.new.waiting ≤ self.old.waiting }
     {
-        fold_pending(&mut self.table, &mut self.pending, alloc)
+        fold_pending(&mut self.table, &mut self.begun, &mut self.pending)
     }
 
     /// The rows as a source. The condition is met once [`CommittedRows::settle`] answered Ok, until
@@ -86,19 +98,37 @@ impl CommittedRows {
     }
 }
 
-/// Folds the entries that wait into a table, the first of them first.
+/// Moves the writes that are left of an entry into a table, and then those of the entries that wait,
+/// the first of them first.
 fn fold_pending(
     table: &mut KeyTable,
+    begun: &mut Vec<Write>,
     pending: &mut Pending,
-    alloc: Global,
 ) -> Result<(), TableError>
-    ensures state { replay_from table.new pending.new ≡ replay_from table.old pending.old }
-    ensures ok { OnOk result (pending.new ≡ []) }
-    ensures fewer { length pending.new ≤ length pending.old }
+    ensures state { state_with table.new begun.new.items pending.new
+        ≡ state_with table.old begun.old.items pending.old }
+    ensures ok { OnOk result (waiting_with begun.new.items pending.new ≡ 0) }
+    ensures fewer { waiting_with begun.new.items pending.new
+        ≤ waiting_with begun.old.items pending.old }
 {
-    while let Some(entry) = pending.first() {
-        table.fold(alloc, entry)?;
-        pending.take_first();
+    table.take_in(begun)?;
+    while let Some(entry) = pending.take_first() {
+        *begun = turned(entry);
+        table.take_in(begun)?;
     }
     Ok(())
+}
+
+/// The writes of an entry, the last of them first.
+fn turned(entry: Entry) -> Vec<Write>
+    ensures { reverse result.items ≡ entry.writes }
+{
+    let Entry {
+        number: _number,
+        by: _by,
+        writes,
+    } = entry;
+    let mut turned = writes.into_vec();
+    turned.reverse();
+    turned
 }

@@ -1,5 +1,5 @@
 //! Rows by table and key.
-ghost use Rattle.std.specs.Prelude.{◌≡◌, Option, Some, None, IsTrue, OnOk, OnErr, IfOk, option_map};
+ghost use Rattle.std.specs.Prelude.{◌≡◌, ◌≤◌, [], Option, Some, None, IsTrue, OnOk, OnErr, IfOk, IfErr, option_map, reverse, length};
 ghost use Rattle.std.specs.Option.{option_copied};
 ghost use Rattle.std.specs.FinMap as map;
 ghost use Rattle.odb_model.specs.State.{changed, table_key_of, after_writes};
@@ -11,12 +11,12 @@ ghost use Rattle.odb_keytable.specs.Place.{IsLeft};
 use crate::TableError;
 use crate::begin::begin_from;
 use crate::copying::{compact_key, compact_row};
-use crate::map::{entries_behind, insert_row, remove_row};
+use crate::map::{entries_behind, insert_row, remove_row, write_of};
 use crate::place::step;
 use crate::spot::Spot;
 use odb_model::{Entry, Write};
 use odb_values::{Duplicate, Key, Range, Row};
-use std::alloc::{AllocError, Global};
+use std::alloc::{AllocError, AllocFailed, Global};
 use std::collections::BTreeMap;
 use std::collections::btree_map::Range as Entries;
 use std::marker::Model;
@@ -89,7 +89,10 @@ impl KeyTable {
     {
         let spot = Spot::At(write.table, compact_key(alloc, &write.key)?);
         match &write.row {
-            Some(row) => self.insert(spot, compact_row(alloc, row)?),
+            Some(row) => {
+                self.insert(spot, compact_row(alloc, row)?)?;
+                Ok(())
+            }
             None => {
                 self.remove(&spot);
                 Ok(())
@@ -97,10 +100,56 @@ impl KeyTable {
         }
     }
 
-    fn insert(&mut self, spot: Spot, row: Row) -> Result<(), AllocError>
+    /// Moves writes in, the last one first, in the time of a search for each. The error is want of
+    /// memory: then those are left that aren't in yet, in their places.
+    pub(crate) fn take_in(&mut self, writes: &mut Vec<Write>) -> Result<(), AllocError>
+        ensures state { after_writes self.new (reverse writes.new.items)
+            ≡ after_writes self.old (reverse writes.old.items) }
+        ensures ok { OnOk result (writes.new.items ≡ []) }
+        ensures fewer { length writes.new.items ≤ length writes.old.items }
+    {
+        writes.reserve(0)?;
+        while let Some(write) = writes.pop() {
+            if let Err(back) = self.take(write) {
+                writes.push_reserved(back);
+                return Err(AllocError);
+            }
+        }
+        Ok(())
+    }
+
+    /// Moves a write in. Where memory is missing it comes back.
+    fn take(&mut self, write: Write) -> Result<(), Write>
+        ensures ok { OnOk result (self.new ≡ changed self.old (table_key_of write) write.row) }
+        ensures err { OnErr result (self.new ≡ self.old) }
+        ensures back { IfErr result (λ back. back ≡ write) }
+    {
+        let Write {
+            bank,
+            table,
+            key,
+            row,
+        } = write;
+        let spot = Spot::At(table, key);
+        let Some(row) = row else {
+            self.remove(&spot);
+            return Ok(());
+        };
+        match self.insert(spot, row) {
+            Ok(()) => Ok(()),
+            Err(failed) => {
+                let (spot, row) = failed.value;
+                Err(write_of(bank, spot, row))
+            }
+        }
+    }
+
+    /// Puts a row at its place. Where memory is missing both come back.
+    fn insert(&mut self, spot: Spot, row: Row) -> Result<(), AllocFailed<(Spot, Row)>>
         requires { IsTrue (is_row spot) }
         ensures ok { OnOk result (self.new ≡ changed self.old (table_key_at spot) (Some row)) }
         ensures err { OnErr result (self.new ≡ self.old) }
+        ensures back { IfErr result (λ failed. failed.value ≡ (spot, row)) }
     {
         insert_row(&mut self.rows, spot, row)
     }

@@ -31,6 +31,14 @@ only_controls : (m : Machine) (seen : Seen) (reply : Reply) (after : Machine) �
 only_controls m seen Memory after step = only_same m after step
 only_controls m seen reply after step = only_unless (refusal m control.Turn) m seen reply after step
 
+only_told : (why : Option Reply) (m : Machine) (seen : Seen) (reply : Reply) (after : Machine) → WorksUnless why m seen control.State reply after → OnlyTurns m after
+only_told (Some r) m seen reply after step = only_same m after step.1
+only_told None m seen reply after step = only_same m after step.1
+
+only_state : (m : Machine) (seen : Seen) (reply : Reply) (after : Machine) → Controls m seen control.State reply after → OnlyTurns m after
+only_state m seen Memory after step = only_same m after step
+only_state m seen reply after step = only_told (refusal m control.State) m seen reply after step
+
 only_upkeep : (m : Machine) (reply : Reply) (after : Machine) → UpkeepStep m reply after → OnlyTurns m after
 only_upkeep m NotYet after step = only_same m after step
 only_upkeep m reply after step = absurd step
@@ -38,4 +46,5 @@ only_upkeep m reply after step = absurd step
 -- so of each control line
 pub only_turns : (m : Machine) (line : ControlLine) (seen : Seen) (reply : Reply) (after : Machine) → ControlStep (is_built line) m seen line reply after → OnlyTurns m after
 only_turns m control.Turn seen reply after step = only_controls m seen reply after step
+only_turns m control.State seen reply after step = only_state m seen reply after step
 only_turns m line seen reply after step = only_upkeep m reply after step

@@ -100,10 +100,11 @@ StatementStep m s seen (DropTable name) reply after =
     DefinesIn m s seen (DropTable name) (m.sessions s) reply after
 StatementStep m s seen other reply after = Refuses m reply after
 
--- Whether a control line is built. TURN alone is yet: any other is answered NOTYET, whatever the
+-- Whether a control line is built. TURN and STATE are yet: any other is answered NOTYET, whatever the
 -- machine is at
 abbrev pub is_built : ControlLine → Bool
 is_built control.Turn = true
+is_built control.State = true
 is_built line = false
 
 -- a line that isn't built

@@ -1,2 +1,5 @@
 pub mod ReadingFiles
 pub mod ReadingRows
+mod Together
+mod LateRows
+mod Prefix

@@ -1,6 +1,6 @@
 -- What a databank file reads as is what its bytes are in order for, or damaged.
-use Rattle.std.proofs.Common.{◌≡◌, ℕ, zero, suc, ◌+◌, ◌*◌, ◌^◌, ◌<◌, ◌≤◌, Bool, true, false, ◌==◌, List, [], ◌∷◌, length, Option, Some, None, refl, sym, ap, ◌∙◌, subst, inl, inr, arith, eq-eqb, eqb-true, le-leb, leb-true, le-ltb, lt-ltb}
-use Rattle.std.specs.Prelude.{◌⊎◌, ◌&&◌, not, nat_lt, nat_le, find, if◌then◌else◌}
+use Rattle.std.proofs.Common.{◌≡◌, ℕ, zero, suc, ◌+◌, ◌*◌, ◌^◌, ◌<◌, ◌≤◌, Bool, true, false, ◌==◌, List, length, Option, Some, None, refl, sym, ap, ◌∙◌, subst, inl, inr, arith, eq-eqb, eqb-true, le-leb, leb-true, le-ltb, lt-ltb}
+use Rattle.std.specs.Prelude.{◌⊎◌, ◌&&◌, not, nat_le, find, if◌then◌else◌}
 use Rattle.std.specs.List.{range_with_len}
 use Rattle.std.proofs.lemmas.Bool.{cases_eq, and_from, and_parts}
 use Rattle.odb_extent.specs.Opened.{Opened as Extents, no_open_place, malformed, holding, opened as extents_in, content_end}
@@ -10,7 +10,7 @@ use Rattle.odb_machine.specs.Readings.{Reading, Damaged, Holds, FileReading, Ask
 use Rattle.odb_bank.specs.declared.fields.BankFields.{BankFields}
 use Rattle.odb_bank.specs.Fields.{fields_in, bank_image}
 use Rattle.odb_bank.specs.Spelled.{record_of_slot}
-use Rattle.odb_bank.specs.Opening.{HasHead, is_lawful, IsDamagedSlot, AreLawful, IsLeastDamaged, IsInOrder, IsShort, HasDamage, IsDamagedAt}
+use Rattle.odb_bank.specs.Opening.{HasHead, is_lawful, IsDamagedSlot, IsInOrder, IsShort, HasDamage, IsDamagedAt}
 use Rattle.odb_bank.proofs.Marks.{mark_found, mark_lacks, mark_is}
 use Rattle.odb_open.specs.Files.{is_damaged_slot, reading_of_view, with_slots, with_limit, is_head, with_fields, with_extents, file_in}
 

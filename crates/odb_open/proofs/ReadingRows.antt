@@ -1,5 +1,5 @@
 -- The rows of a databank file as it reads: of each key the row of its record.
-use Rattle.std.proofs.Common.{◌≡◌, ℕ, zero, suc, ◌+◌, ◌<◌, ◌≤◌, Bool, true, false, ◌||◌, cond, List, [], ◌∷◌, Option, Some, None, refl, sym, ap, ◌∙◌, subst, inl, inr, arith}
+use Rattle.std.proofs.Common.{◌≡◌, ℕ, zero, suc, ◌+◌, ◌<◌, ◌≤◌, Bool, true, false, ◌||◌, cond, List, [], ◌∷◌, Option, Some, None, refl, sym, ap, ◌∙◌, inl, inr, arith}
 use Rattle.std.specs.List.{list_any, filter_map, range_with_len, cons_option}
 use Rattle.std.specs.Ordering.{eq_by_cmp, is_eq}
 use Rattle.std.specs.declared.cmp.Ordering.{Ordering}
@@ -13,7 +13,7 @@ use Rattle.odb_model.proofs.Replay.{table_key_cmp_total, table_key_cmp_exact, ge
 use Rattle.odb_bank.specs.History.{Row}
 use Rattle.odb_bank.specs.Records.{Record, View, record_of, row_of, bank_map, IsRecord}
 use Rattle.odb_bank.proofs.Reading.{record_is}
-use Rattle.odb_open.specs.Files.{open_records, rows_with, reading_of_view}
+use Rattle.odb_open.specs.Files.{open_records, rows_with}
 
 -- the record is one of the key
 abbrev is_of : TableKey → Record → Bool

@@ -1,5 +1,5 @@
 -- By which choices a database may be opened.
-use Rattle.std.specs.Prelude.{◌≡◌, ◌≢◌, ℕ, ◌+◌, ◌≤◌, nat_lt, List, length, take, drop, filter, Contains}
+use Rattle.std.specs.Prelude.{◌≡◌, ◌≢◌, ℕ, ◌+◌, ◌≤◌, nat_lt, List, take, drop, filter, Contains}
 use Rattle.odb_model.specs.declared.entry.Entry.{Entry}
 use Rattle.odb_model.specs.State.{State, replay}
 use Rattle.odb_model.specs.Databanks.{Databank, databanks}

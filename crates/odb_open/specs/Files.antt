@@ -12,7 +12,6 @@ use Rattle.odb_machine.specs.Readings.{Reading, Missing, Damaged, Holds, Transdb
 use Rattle.odb_extent.specs.Opened.{Opened as Extents, no_open_place, malformed, holding as holding_extents, opened as extents_in, content_end}
 use Rattle.odb_slots.specs.Slots.{OPEN, slot_place, gate_at}
 use Rattle.odb_slots.specs.Views.{spelled, view_by}
-use Rattle.odb_transdb.specs.declared.header.Header.{Header}
 use Rattle.odb_transdb.specs.Opened.{Opened as OfTransdb, no_database, damaged as damaged_transdb, holding as holding_transdb, opened as transdb_opened}
 use Rattle.odb_commit.specs.Standing.{sides_of}
 use Rattle.odb_logdb.specs.declared.fields.LogFields.{LogFields}

@@ -1,5 +1,5 @@
 -- What a crash may leave of each file while a machine stands.
-use Rattle.std.specs.Prelude.{◌≡◌, ◌⊎◌, ℕ, ◌-◌, ◌≤◌, Bool, true, false, List, length, drop, take, Contains, IsSome}
+use Rattle.std.specs.Prelude.{◌≡◌, ℕ, ◌-◌, ◌≤◌, Bool, true, false, List, length, drop, take, Contains, IsSome}
 use Rattle.odb_device.specs.World.{Moment}
 use Rattle.odb_model.specs.declared.entry.Entry.{Entry}
 use Rattle.odb_machine.specs.Sides.{first_in}

@@ -6,7 +6,7 @@ use Rattle.odb_device.specs.Calls.{FileCountRose}
 use Rattle.odb_device.specs.Steps.{Steps, IsQuiet}
 use Rattle.odb_device.specs.Moments.{EachMoment, EachCrashSince}
 use Rattle.odb_model.specs.declared.status.Status.{Status}
-use Rattle.odb_model.specs.declared.status.Status.TheVariants.{Done, Usage, ReadFault, WriteFault, FileFault, NoDatabase, Exists, Damaged, NotHeld, InputTooLong, NoMemory, NotACopy, Unfinished}
+use Rattle.odb_model.specs.declared.status.Status.TheVariants.{Usage, FileFault, Exists, NoMemory}
 use Rattle.odb_machine.specs.Copies.{Choice}
 use Rattle.odb_machine.specs.Book.{Seen}
 use Rattle.odb_machine.specs.MachineState.{Machine}

@@ -281,12 +281,20 @@ so_controls : (m : Machine) (seen : Seen) (reply : Reply) (after : Machine) → 
 so_controls m seen Memory after step = tt
 so_controls m seen reply after step = so_turn m.in_doubt m.sides.other m seen reply after step
 
+so_told : (m : Machine) (seen : Seen) (reply : Reply) (after : Machine) → WorksUnless None m seen control.State reply after → IsSo seen reply after
+so_told m seen reply after step = subst (λ (r : Reply). IsSo seen r after) (sym step.0) tt
+
+so_state : (m : Machine) (seen : Seen) (reply : Reply) (after : Machine) → Controls m seen control.State reply after → IsSo seen reply after
+so_state m seen Memory after step = tt
+so_state m seen reply after step = so_told m seen reply after step
+
 so_upkeep : (m : Machine) (seen : Seen) (reply : Reply) (after : Machine) → UpkeepStep m reply after → IsSo seen reply after
 so_upkeep m seen NotYet after step = tt
 so_upkeep m seen reply after step = absurd step
 
 so_line : (m : Machine) (line : ControlLine) (seen : Seen) (reply : Reply) (after : Machine) → ControlStep (is_built line) m seen line reply after → IsSo seen reply after
 so_line m control.Turn seen reply after step = so_controls m seen reply after step
+so_line m control.State seen reply after step = so_state m seen reply after step
 so_line m line seen reply after step = so_upkeep m seen reply after step
 
 leaves_event : (m : Machine) (event : Event) (seen : Seen) (reply : Reply) (after : Machine) → Step m event seen reply after → Leaves m seen reply after

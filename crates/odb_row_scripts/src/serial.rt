@@ -78,17 +78,30 @@ pub(crate) fn compare_alone(
     Ok(sessions.compared)
 }
 
-/// The first reply, which is any number of rows and the line behind them, and what follows it.
+/// The first reply, and what follows it.
+///
+/// A reply is one line, but for two: any number of rows with the line behind them, and what STATE
+/// tells, which begins with the number of entries and ends with the log and the files.
 fn first_reply(said: &[u8]) -> (&[u8], &[u8]) {
     let mut rest = said;
     for _ in 0..said.len() {
         let (first, later) = first_line(rest);
         rest = later;
-        if !after_head(first).starts_with(b"ROW ") {
+        if !goes_on(first, later) {
             break;
         }
     }
     said.split_at(said.len().saturating_sub(rest.len()))
+}
+
+/// Whether the reply that this line stands in goes on behind it.
+fn goes_on(line: &[u8], later: &[u8]) -> bool {
+    let text = after_head(line);
+    let next = after_head(first_line(later).0);
+    text.starts_with(b"ROW ")
+        || text.starts_with(b"NUMBER ")
+        || next.starts_with(b"LOGDB ")
+        || next.starts_with(b"FILE ")
 }
 
 /// What follows the head of a reply and its space.

@@ -9,7 +9,7 @@ use odb_transdb::{Transdb, TransdbError};
 use std::alloc::Global;
 
 /// How many files a row may name, from 0 on.
-pub(crate) const FILES: u32 = 4;
+pub(crate) const FILES: u32 = 5;
 
 /// How many calls a host records.
 const CALLS: u32 = 1 << 14;

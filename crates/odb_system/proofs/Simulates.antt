@@ -175,6 +175,8 @@ module _ (m : Machine) (s : ℕ) (in_range : IsSession s) (held : Held) (stands 
         count = length-set held.sessions (s - 1) x ∙ stands.count;
         each = shows_with stands.since held.sessions m s x t stands.count in_range stands.each here;
         answered = answered_step m s st (told_by reply) reply (with_session m s t) stands.answered step;
+        log = stands.log;
+        copies = stands.copies;
       } in
       record {
         next = with_session m s t;
@@ -301,6 +303,8 @@ module _ (m : Machine) (s : ℕ) (in_range : IsSession s) (held : Held) (stands 
           subst (λ (ys : List (Option Kept)). Shows stands.since b.history m.format q (unwrap_or (slice_get ys (q - 1)) None) (m.sessions q)) (sym sessions)
           (shows_still b more q (unwrap_or (slice_get held.sessions (q - 1)) None) (m.sessions q) (stands.answered.sessions q) (stands.each q is));
       answered = answered;
+      log = stands.log;
+      copies = stands.copies;
     }
 
     stands_idle : after.sessions ≡ slice_set held.sessions (s - 1) None → AnsweredFromSnapshots (with_session (with_book m b) s Idle) → StandsFor after (with_session (with_book m b) s Idle)
@@ -316,6 +320,8 @@ module _ (m : Machine) (s : ℕ) (in_range : IsSession s) (held : Held) (stands 
           (shows_still b more q (unwrap_or (slice_get (slice_set held.sessions (s - 1) None) (q - 1)) None) ((with_session m s Idle).sessions q) (idle_answered q)
           (shows_with stands.since held.sessions m s None Idle stands.count in_range stands.each tt q is));
       answered = answered;
+      log = stands.log;
+      copies = stands.copies;
     }
 
     stands_behind : (c : Bool) → after.sessions ≡ cond c (slice_set held.sessions (s - 1) None) held.sessions
@@ -476,4 +482,6 @@ stands_first h xs db rows begins whole are same = record {
       let idle : unwrap_or (slice_get xs (s - 1)) None ≡ None = ap (λ (ys : List (Option Kept)). unwrap_or (slice_get ys (s - 1)) None) same ∙ ap (λ o. unwrap_or o None) (idle_places 64 (s - 1) within) in
       subst (λ (o : Option Kept). Shows (length h) h db.header.format s o Idle) (sym idle) tt;
   answered = answered_first db.header.format (sides_of db.header) h begins.numbered;
+  log = refl;
+  copies = refl;
 }

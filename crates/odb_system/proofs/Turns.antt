@@ -1,5 +1,5 @@
 -- TURN is a step of the machine, which keeps the files.
-use Rattle.std.proofs.Common.{◌≡◌, ◌≢◌, ◌⊎◌, inl, inr, ℕ, ◌+◌, ◌-◌, Bool, true, false, List, [], ◌∷◌, length, Option, Some, None, option_map, Result, Ok, Err, sym, ◌∙◌, ap, subst, refl, arith, eqb-true}
+use Rattle.std.proofs.Common.{◌≡◌, ◌≢◌, ◌⊎◌, inl, inr, ℕ, zero, suc, ◌+◌, ◌-◌, Bool, true, false, List, [], ◌∷◌, map, length, Option, Some, None, option_map, Result, Ok, Err, sym, ◌∙◌, ap, subst, refl, arith, eqb-true}
 use Rattle.std.specs.Prelude.{⊤, is_some, IfSome}
 use Rattle.odb_device.specs.World.{File, World, present, file_of}
 use Rattle.odb_device.specs.Images.{EachImage}
@@ -16,11 +16,14 @@ use Rattle.odb_model.specs.declared.control.Control.{Control as ControlLine}
 use Rattle.odb_model.specs.declared.control.Control.TheVariants as line
 use Rattle.odb_model.specs.declared.reply.Head.TheVariants.{Control as HeadControl}
 use Rattle.odb_model.specs.declared.reply.Reply.{Reply}
-use Rattle.odb_model.specs.declared.reply.Reply.TheVariants.{Fault, Turned, NotClean, Halted, NotYet}
-use Rattle.odb_machine.specs.Sides.{Sides, other_side}
+use Rattle.odb_model.specs.declared.phase.StateReply.{StateReply}
+use Rattle.odb_model.specs.declared.reply.Reply.TheVariants.{Fault, Turned, State as TellsState, NotClean, Halted, NotYet}
+use Rattle.odb_machine.specs.Sides.{Sides, first_on, first_by, other_side, first_in}
+use Rattle.odb_machine.specs.Log.{Log, Absent}
+use Rattle.odb_machine.specs.Copies.{Copy}
 use Rattle.odb_machine.specs.Clearing.{next_in, behind_turn, broken_off}
 use Rattle.odb_machine.specs.Refusals.{first_of, doubt_refusal, unclean_refusal}
-use Rattle.odb_machine.specs.Controls.{WorksUnless}
+use Rattle.odb_machine.specs.Controls.{log_told, line_of_copy, state_of, WorksUnless}
 use Rattle.odb_model.specs.State.{State, replay, IsHistory}
 use Rattle.odb_model.specs.Session.{Session}
 use Rattle.odb_model.specs.Serial.{SessionAnsweredFromSnapshots}
@@ -28,7 +31,7 @@ use Rattle.odb_machine.specs.Machine.{Machine, Step, book_of}
 use Rattle.odb_transdb.specs.declared.header.Header.{Header}
 use Rattle.odb_transdb.specs.declared.error.TransdbError.{TransdbError}
 use Rattle.odb_transdb.specs.declared.error.TransdbError.TheVariants as t
-use Rattle.odb_transdb.specs.Header.{first_held, turned}
+use Rattle.odb_transdb.specs.Header.{first_on as header_on, first_by as header_by, first_held, other_of, turned}
 use Rattle.odb_transdb.specs.Opened.{Holds, entries_in}
 use Rattle.odb_transdb.specs.Standing.{Db, Stands}
 use Rattle.odb_transdb.specs.Turning.{HoldsEnd, HoldsOneOf, StandsSince, SameSides, IsOfTurn, IsTurned, RunsTurn}
@@ -41,7 +44,7 @@ use Rattle.odb_commit.specs.Parts.{Parts, count, IsAligned}
 use Rattle.odb_commit.specs.Turned.{TurnsLog}
 use Rattle.odb_commit.specs.Standing.{sides_of, Fills, StandsFor as BookStandsFor}
 use Rattle.odb_commit.proofs.Following.{turned_on, broken}
-use Rattle.odb_system.specs.Held.{Held, StandsFor, HasCauses, HeldTurnsBy, HeldTurns, HeldControls, TurnsHeld, ComesTo, session_at, without_place, turn_told, told_by}
+use Rattle.odb_system.specs.Held.{Held, StandsFor, HasCauses, HeldTurnsBy, HeldTurns, HeldControls, state_held, TurnsHeld, ComesTo, session_at, without_place, turn_told, told_by}
 use Rattle.odb_system.specs.Durable.{IsBrokenOff, StandsBy, IsDurableBy, IsDurable, Risen, ChangesLog}
 use Rattle.odb_system.specs.Kept.{MayHaveSides, OpensBy, IsKept, Rests, WritesPair, IsDoubtCaused, StepWrites, Stepped}
 use Rattle.odb_system.specs.Open.{Shows}
@@ -122,6 +125,30 @@ pair_writes : (m n : Machine) (reply : Reply) (old new : World) → IsPairReply 
 pair_writes m n (Turned side first) old new pair only = only
 pair_writes m n (Fault f) old new pair only = only
 pair_writes m n reply old new pair only = absurd pair
+
+-- the first entry held, by the header and by the sides
+on_side : (h : Header) (side : ℕ) → first_on (sides_of h) side ≡ header_on h side
+on_side h zero = refl
+on_side h (suc side) = refl
+
+by_other : (h : Header) (o : OtherSide) → first_by (sides_of h) o ≡ header_by h o
+by_other h Live = on_side h (other_of h)
+by_other h Dirty = on_side h h.active
+by_other h Clean = on_side h h.active
+
+first_same : (h : Header) → first_in (sides_of h) ≡ first_held h
+first_same h = by_other h h.other
+
+-- what STATE tells by these
+abbrev told_as : ℕ → Sides → Log → List Copy → StateReply
+told_as number sides log copies = record {
+  number = number;
+  active = sides.active;
+  other = sides.other;
+  first = first_in sides;
+  log = log_told log;
+  copies = map line_of_copy copies;
+}
 
 -- a step that changes nothing
 
@@ -244,9 +271,9 @@ module _ (m : Machine) (held after : Held) (old new : World) (stands : StandsFor
       }
 
     -- the system stands for a machine whose book is this one, and all else of which is as before
-    stands_as : (n : Machine) → BookStandsFor stands.since (record held.book { transdb = after.book.transdb }) (book_of n) → n.history ≡ m.history → ((s : ℕ) → n.sessions s ≡ m.sessions s) → n.format ≡ m.format
+    stands_as : (n : Machine) → BookStandsFor stands.since (record held.book { transdb = after.book.transdb }) (book_of n) → n.history ≡ m.history → ((s : ℕ) → n.sessions s ≡ m.sessions s) → n.format ≡ m.format → n.log ≡ m.log → n.copies ≡ m.copies
         → m.format ≡ after.book.transdb.header.format → (n.may_turn ≡ false → after.book.transdb.pair.settled ≡ true) → StandsFor after n
-    stands_as n book history sessions format same settled =
+    stands_as n book history sessions format log copies same settled =
         subst (λ (h : Held). StandsFor h n) (sym step.rest)
         (record {
           since = stands.since;
@@ -266,6 +293,8 @@ module _ (m : Machine) (held after : Held) (old new : World) (stands : StandsFor
                 (subst (λ (f : ℕ). SessionAnsweredFromSnapshots m.history (n.sessions s) f) (sym format)
                 (subst (λ (o : Session). SessionAnsweredFromSnapshots m.history o m.format) (sym (sessions s)) (stands.answered.sessions s)));
           };
+          log = log ∙ stands.log;
+          copies = copies ∙ stands.copies;
         })
 
   -- by the result
@@ -280,7 +309,7 @@ module _ (m : Machine) (held after : Held) (old new : World) (stands : StandsFor
       let last : last_number held.book.window ≡ length m.history = IsWindow-last stands.since m.history held.book.window stands.book.window in
       let first : count after.book + 1 ≡ next_in m = ap (λ (p : Parts). count p + 1) (book_behind held (Ok tt) after old new step) ∙ ap (λ (k : ℕ). k + 1) last in
       let there : StandsFor after n =
-      stands_as (Ok tt) step clean n (turned_on stands.since held.book (book_of m) after.book.transdb new stands.book (none (Ok tt) step clean) turned_log step.log.placed.1) refl (λ s. refl) refl
+      stands_as (Ok tt) step clean n (turned_on stands.since held.book (book_of m) after.book.transdb new stands.book (none (Ok tt) step clean) turned_log step.log.placed.1) refl (λ s. refl) refl refl refl
       (stands.format ∙ sym (ap (λ (h : Header). h.format) turned_log.header)) (λ whole. (stands_settled after.book.transdb (file_of 0 new) turned_log.stands).settled) in
       stepped_as (Ok tt) step clean n refl refl so (turn_told after (Ok tt)) (turns_as m (none (Ok tt) step clean) (clean_here (Ok tt) step clean) after.book.transdb.header.active (count after.book + 1) side first) there
       (record { rose_has = λ file risen. cc; before_has = λ risen. cc; at_has = λ risen. cc }) tt
@@ -305,7 +334,7 @@ module _ (m : Machine) (held after : Held) (old new : World) (stands : StandsFor
       let next : length m.history + 1 ≡ db.active.next = (fills (Err t.Fault) step clean).next in
       let either : (k : Header) → IsEither db k → MayHaveSides n (sides_of k) = λ k is. sides_either n db k refl stands.book.sides next clean is in
       let there : StandsFor after n =
-      stands_as (Err t.Fault) step clean n (broken stands.since held.book (book_of m) after.book.transdb stands.book same) refl (λ s. refl) refl
+      stands_as (Err t.Fault) step clean n (broken stands.since held.book (book_of m) after.book.transdb stands.book same) refl (λ s. refl) refl refl refl
       (stands.format ∙ sym (ap (λ (h : Header). h.format) same.header)) (λ whole. absurd (cc whole)) in
       stepped_as (Err t.Fault) step clean n refl refl (λ k is. either k (inr is)) (Fault 0) (faults_as m (none (Err t.Fault) step clean) (clean_here (Err t.Fault) step clean)) there
       (fault_causes old new (step.log.cause refl)) tt
@@ -351,8 +380,32 @@ module _ (m : Machine) (held after : Held) (old new : World) (stands : StandsFor
   unfolding is_plain
   not_built control reply taken step = subst (λ (r : Reply). Stepped m (OfControl control) r after old new) (sym step.0) (stepped_nothing m control NotYet held after old new stands rests refl taken step.1.0 step.1.1)
 
+  -- what it tells of itself, the machine tells
+  told_state : state_held held ≡ state_of m
+  told_state =
+      ap (λ (first : ℕ). record {
+        number = count held.book;
+        active = db.header.active;
+        other = db.header.other;
+        first = first;
+        log = None;
+        copies = [];
+      }) (sym (first_same db.header))
+      ∙ ap (λ (number : ℕ). told_as number (sides_of db.header) Absent []) (IsWindow-last stands.since m.history held.book.window stands.book.window)
+      ∙ ap (λ (sides : Sides). told_as (length m.history) sides Absent []) (sym stands.book.sides)
+      ∙ ap (λ (log : Log). told_as (length m.history) m.sides log []) (sym stands.log)
+      ∙ ap (λ (copies : List Copy). told_as (length m.history) m.sides m.log copies) (sym stands.copies)
+
+  tells : (reply : Reply) → (reply ≡ TellsState (state_held held)) × ComesTo held after old new → Stepped m (OfControl line.State) reply after old new
+  unfolding is_plain
+  tells reply step =
+      let taken : Step m (OfControl line.State) (told_by (TellsState (state_held held))) (TellsState (state_held held)) m = (ap TellsState told_state, refl) in
+      subst (λ (r : Reply). Stepped m (OfControl line.State) r after old new) (sym step.0)
+      (stepped_nothing m line.State (TellsState (state_held held)) held after old new stands rests refl taken step.1.0 step.1.1)
+
   pub stepped_control : (control : ControlLine) (reply : Reply) → HeldControls held control reply after old new → Stepped m (OfControl control) reply after old new
   stepped_control line.Turn reply step = by_halt held.book.halted reply refl step
+  stepped_control line.State reply step = tells reply step
   stepped_control other reply step = not_built other reply refl step
 
 -- what a control line leaves of the log and its file, whatever machine the system stands for
@@ -363,6 +416,7 @@ durable_halt None held after reply old new durable step = durable_turned held st
 
 pub durable_control : (held after : Held) (control : ControlLine) (reply : Reply) (old new : World) → IsDurable held (file_of 0 old) → HeldControls held control reply after old new → IsDurable after (file_of 0 new)
 durable_control held after line.Turn reply old new durable step = durable_halt held.book.halted held after reply old new durable step
+durable_control held after line.State reply old new durable step = durable_come held after old new durable step.1
 durable_control held after other reply old new durable step = durable_come held after old new durable step.1
 
 only_come : (held after : Held) (old new : World) → ComesTo held after old new → ChangesLog old new
@@ -374,6 +428,7 @@ only_halt None held after reply old new step = record { only = step.2.log.only.o
 
 pub only_control : (held after : Held) (control : ControlLine) (reply : Reply) (old new : World) → HeldControls held control reply after old new → ChangesLog old new
 only_control held after line.Turn reply old new step = only_halt held.book.halted held after reply old new step
+only_control held after line.State reply old new step = only_come held after old new step.1
 only_control held after other reply old new step = only_come held after old new step.1
 
 -- what a system is behind a turn of its book
@@ -399,6 +454,7 @@ first_turned (Err t.Fault) db d old new log first = ap first_held (log.fault ref
 first_turned (Err error) db d old new log first = absurd log.answer
 
 -- a line that isn't built
-pub other_line : (held : Held) (control : ControlLine) (w : World) → (control ≡ line.Turn → ⊥) → HeldControls held control NotYet held w w
-other_line held line.Turn w other = absurd (other refl)
-other_line held control w other = (refl, (refl, refl))
+pub other_line : (held : Held) (control : ControlLine) (w : World) → (control ≡ line.Turn → ⊥) → (control ≡ line.State → ⊥) → HeldControls held control NotYet held w w
+other_line held line.Turn w other untold = absurd (other refl)
+other_line held line.State w other untold = absurd (untold refl)
+other_line held control w other untold = (refl, (refl, refl))

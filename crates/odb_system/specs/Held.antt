@@ -14,8 +14,9 @@ use Rattle.odb_model.specs.declared.event.Event.{Event}
 use Rattle.odb_model.specs.declared.event.Event.TheVariants.{Session as OfSession, Control}
 use Rattle.odb_model.specs.declared.control.Control.{Control as ControlLine}
 use Rattle.odb_model.specs.declared.control.Control.TheVariants as line
+use Rattle.odb_model.specs.declared.phase.StateReply.{StateReply}
 use Rattle.odb_model.specs.declared.reply.Reply.{Reply}
-use Rattle.odb_model.specs.declared.reply.Reply.TheVariants.{Okay, Committed, Ended, InDoubt, Halted, Aged, Conflict, HistoryFull, Full, NoTransaction, InTransaction, Fault, Turned, NotClean, Memory, NotYet}
+use Rattle.odb_model.specs.declared.reply.Reply.TheVariants.{Okay, Committed, Ended, InDoubt, Halted, Aged, Conflict, HistoryFull, Full, NoTransaction, InTransaction, Fault, Turned, State as TellsState, NotClean, Memory, NotYet}
 use Rattle.odb_model.specs.declared.statement.Statement.{Statement}
 use Rattle.odb_model.specs.declared.statement.Statement.TheVariants.{Start, Commit, Rollback, Select, Insert, Update, Delete, CreateTable, DropTable}
 use Rattle.odb_model.specs.State.{State, IsHistory, after_writes, replay}
@@ -23,6 +24,7 @@ use Rattle.odb_model.specs.Meaning.{Meaning}
 use Rattle.odb_model.specs.Definitions.{IsSpelled, Planned, Refused, Plans, planned}
 use Rattle.odb_model.specs.Script.{IsSession}
 use Rattle.odb_machine.specs.Readings.{nothing_told}
+use Rattle.odb_machine.specs.Log.{Absent}
 use Rattle.odb_machine.specs.Book.{Seen, ends_transaction, most_entries}
 use Rattle.odb_machine.specs.Machine.{Machine, book_of, Step}
 use Rattle.odb_model.specs.Storable.{HasKeys}
@@ -271,14 +273,28 @@ HeldTurnsBy None held reply after old new =
 abbrev pub HeldTurns : Held → Reply → Held → World → World → Type 0
 HeldTurns held reply after old new = HeldTurnsBy held.book.halted held reply after old new
 
--- a control line, of which TURN alone is built
+-- what a system tells of itself: TRANSDB's numbers, and that there is no LOGDB and no copy
+abbrev pub state_held : Held → StateReply
+state_held held = record {
+  number = count held.book;
+  active = held.book.transdb.header.active;
+  other = held.book.transdb.header.other;
+  first = first_held held.book.transdb.header;
+  log = None;
+  copies = [];
+}
+
+-- a control line, of which TURN and STATE are built
 abbrev pub HeldControls : Held → ControlLine → Reply → Held → World → World → Type 0
 HeldControls held line.Turn reply after old new = HeldTurns held reply after old new
+HeldControls held line.State reply after old new =
+    (reply ≡ TellsState (state_held held)) × ComesTo held after old new
 HeldControls held other reply after old new = (reply ≡ NotYet) × ComesTo held after old new
 
 -- The system stands for the machine. Its book does, with a window that was begun where the history had
 -- `since` entries; the rows are those that the history makes; of each session there is what stands for
--- its transaction. Unless a turn may have been broken off, the pair of TRANSDB is settled
+-- its transaction. Unless a turn may have been broken off, the pair of TRANSDB is settled. There is no
+-- LOGDB and no copy
 pub record StandsFor (held : Held) (m : Machine) : Type 0 where
   pub since : ℕ
   pub book : BookStandsFor since held.book (book_of m)
@@ -290,6 +306,8 @@ pub record StandsFor (held : Held) (m : Machine) : Type 0 where
   pub each : (s : ℕ) → IsSession s
       → Shows since m.history m.format s (session_at held (s - 1)) (m.sessions s)
   pub answered : AnsweredFromSnapshots m
+  pub log : m.log ≡ Absent
+  pub copies : m.copies ≡ []
 
 -- the session's number, where there is one, is one of those there are, and some text spells its
 -- statement

@@ -109,7 +109,7 @@ pub record WritesWithinLog
 abbrev pub WritesLog : (Db → World → World → Type 0) → Machine → World → World → Type 0
 WritesLog Bounds m old new = BehindPair m.may_turn m (WritesWithinLog Bounds m) old new
 
--- What a step that is answered FAULT may write: with a control line, of which TURN alone is built, the
+-- What a step that is answered FAULT may write: with a control line, of which TURN alone writes, the
 -- pair; with a statement what is behind the gate
 abbrev pub FaultWrites : Head → Machine → World → World → Type 0
 FaultWrites Control m old new = WritesPair old new

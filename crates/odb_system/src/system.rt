@@ -14,10 +14,11 @@ use crate::taking::rows_after;
 use odb_commit::Book;
 use odb_device::Host;
 use odb_keytable::CommittedRows;
-use odb_model::{Control, Entries, Event, Reply, SESSIONS, Statement};
+use odb_model::{Control, Entries, Event, Reply, SESSIONS, StateReply, Statement};
 use odb_transdb::Transdb;
 use odb_txn::Transaction;
 use odb_validate::Window;
+use odb_values::Frozen;
 use std::alloc::{AllocError, Global};
 use std::marker::Model;
 
@@ -64,7 +65,7 @@ impl Model for System {
 impl System {
     ghost use Rattle.odb_machine.specs.Machine.{Machine, first_machine};
     ghost use Rattle.odb_commit.specs.Standing.{sides_of};
-    ghost use Rattle.odb_system.specs.Held.{session_at, Begins, HeldStarts, HeldRollsBack, HeldExecutes, HeldCommits, HeldDefines, HeldRuns, HeldTurns, HeldControls, StandsFor, IsAsked};
+    ghost use Rattle.odb_system.specs.Held.{session_at, Begins, HeldStarts, HeldRollsBack, HeldExecutes, HeldCommits, HeldDefines, HeldRuns, HeldTurns, state_held, HeldControls, StandsFor, IsAsked};
     ghost use Rattle.odb_system.specs.Durable.{IsDurable, ChangesLog};
     ghost use Rattle.odb_system.specs.Kept.{Rests, Stepped};
 
@@ -97,7 +98,7 @@ impl System {
     }
 
     /// One step of the machine: the reply to a statement of a session, or to a control line, of which
-    /// TURN alone is built. Want of memory is the reply `Memory`.
+    /// TURN and STATE are built. Want of memory is the reply `Memory`.
     ///
     /// A COMMIT that leaves writes, a CREATE TABLE and a DROP TABLE force a record: two syncs and three
     /// writes of file 0 where the log's tail is clear; behind a TURN that was answered FAULT the pair of
@@ -123,20 +124,37 @@ impl System {
     {
         match event {
             Event::Session { session, statement } => self.ask(alloc, host, *session, statement),
-            Event::Control(line) => self.control(host, *line),
+            Event::Control(line) => self.control(alloc, host, *line),
         }
     }
 
-    /// A control line, of which TURN alone is built.
-    fn control<H: Host>(&mut self, host: &mut H, line: Control) -> Reply
+    /// A control line, of which TURN and STATE are built.
+    fn control<H: Host>(&mut self, alloc: Global, host: &mut H, line: Control) -> Reply
         requires durable { IsDurable self.old (file_of 0 (H.world host.old)) }
         ensures controls { HeldControls self.old line result self.new
             (H.world host.old) (H.world host.new) }
     {
         match line {
             Control::Turn => self.turn(host),
+            Control::State => self.state(alloc),
             _ => Reply::NotYet,
         }
+    }
+
+    /// STATE: the number of entries and what TRANSDB is at. It makes no call of the host and takes no
+    /// memory.
+    fn state(&self, alloc: Global) -> Reply
+        ensures { result ≡ Reply.State (state_held self.now) }
+    {
+        let transdb = self.book.transdb();
+        Reply::State(StateReply {
+            number: self.book.count(),
+            active: transdb.active(),
+            other: transdb.other(),
+            first: transdb.first(),
+            log: None,
+            copies: Frozen::empty(alloc),
+        })
     }
 
     /// TURN. It takes no memory.

@@ -1,11 +1,13 @@
 -- What a creation leaves of a database that is there.
-use Rattle.std.proofs.Common.{◌≡◌, ◌≢◌, Option, Some, None}
+use Rattle.std.proofs.Common.{◌≡◌, ◌≢◌, subst, Option, Some, None, Result, Err}
 use Rattle.std.specs.Prelude.{IfSome}
 use Rattle.odb_device.specs.World.{File, World, file_of}
-use Rattle.odb_device.specs.Images.{TornFrom}
-use Rattle.odb_device.specs.Moments.{Runs, WritesWithin}
-use Rattle.odb_device.proofs.Time.{joins, weakens}
+use Rattle.odb_device.specs.Moments.{WritesWithin}
+use Rattle.odb_pair.specs.Answers.{IsOpened}
 use Rattle.odb_pair.specs.Places.{no_open_place, opened}
+use Rattle.odb_pair.specs.Standing.{PairState}
+use Rattle.odb_pair.specs.declared.error.PairError.{PairError}
+use Rattle.odb_pair.specs.declared.error.PairError.TheVariants.{NoOpenPlace}
 use Rattle.odb_tool.specs.Created.{LeavesDatabase}
 
 -- what holds anyway holds where the pair has an open place
@@ -24,6 +26,6 @@ leaves_unwritten old new within = anyway (WritesWithin 0 0 0 old new) (file_of 0
 pub leaves_none : (old new : World) → IfSome (file_of 0 old) (λ f. opened f.bytes ≡ no_open_place) → LeavesDatabase old new
 leaves_none old new none = never (WritesWithin 0 0 0 old new) (file_of 0 old) none
 
--- what was opened and then changed is changed alone
-pub opened_then : (old mid new : World) → WritesWithin 0 0 0 old mid → Runs 0 (λ o. Unit {0}) mid new → Runs 0 (λ o. Unit {0}) old new
-opened_then old mid new first second = joins 0 (λ o. Unit {0}) old mid new (weakens 0 (TornFrom 0 0 (file_of 0 old)) (λ o. Unit {0}) old mid (λ o torn. tt) first) second
+-- the pair had no open place
+pub none_by : (old : World) (r : Result PairState PairError) → r ≡ Err NoOpenPlace → IfSome (file_of 0 old) (λ f. IsOpened r f.bytes) → IfSome (file_of 0 old) (λ f. opened f.bytes ≡ no_open_place)
+none_by old r is answer = subst (λ (s : Result PairState PairError). IfSome (file_of 0 old) (λ f. IsOpened s f.bytes)) is answer

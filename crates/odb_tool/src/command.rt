@@ -1,16 +1,12 @@
 //! The commands of the program: the call `run`.
-ghost use Rattle.std.specs.Prelude.{◌≡◌, ◌↔◌, ℕ, [], ◌∷◌, map, string_bytes, IsTrue, IfSome};
-ghost use Rattle.odb_device.specs.World.{file_of};
-ghost use Rattle.odb_device.specs.Calls.{FileCountRose};
+ghost use Rattle.std.specs.Prelude.{◌≡◌, ◌⊎◌, ℕ, false, [], map, string_bytes};
 ghost use Rattle.odb_device.specs.Console.{TakeCountRose, SayCountRose};
-ghost use Rattle.odb_device.specs.Moments.{Runs};
-ghost use Rattle.odb_pair.specs.Places.{opened as pair_opened};
-ghost use Rattle.odb_transdb.specs.Opened.{opened};
-ghost use Rattle.odb_play.specs.Opening.{PlayOutcome, IsOpeningOf};
-ghost use Rattle.odb_tool.specs.Words.{IsPlay, IsCreate, IsCommand};
-ghost use Rattle.odb_tool.specs.Created.{IsCreationOf, CreateOutcome, IsCreateStatus, LeavesDatabase};
+ghost use Rattle.odb_tool.specs.Words.{is_built, IsBuilt, IsPlay, IsCreate, HasSide};
+ghost use Rattle.odb_tool.specs.Created.{DoesCreate};
+ghost use Rattle.odb_tool.specs.Playing.{DoesPlay};
 
 use crate::create::create;
+use odb_command::{Command, CommandError, command_of};
 use odb_device::Host;
 use odb_model::Status;
 use odb_play::play;
@@ -19,13 +15,14 @@ use std::alloc::Global;
 /// Does all that the program does: `create` makes a database, and `play` plays the script on the
 /// host's input over it, and says the reply to each line on its output.
 ///
-/// The words are those of the command line, without the program's name: the one word `create`, or
-/// the one word `play`. With any other words the status is `Usage`, nothing is taken, nothing is
-/// said and no file is touched: the clauses `usage`, `usage_only` and `refused`.
+/// The words are those of the command line, without the program's name: `create`, with `--side N` or
+/// without, or the one word `play`. With any other words the status is `Usage`, or want of memory is
+/// told, nothing is taken, nothing is said and no file is touched: the clauses `usage`, `usage_only`
+/// and `refused`.
 ///
 /// # The theorem
 ///
-/// With `play` the clause `played` says this of every script, however its lines interleave the
+/// With `play` the clause `play` says this of every script, however its lines interleave the
 /// sessions, and of every crash, where the host tells the bytes that it takes and says and those of
 /// TRANSDB, file 0. There is **one run of one machine**. It begins with the entries that TRANSDB
 /// holds as its history, and all sessions idle. It goes over the lines of the bytes taken in this
@@ -91,32 +88,37 @@ use std::alloc::Global;
 /// and then changes nothing, and the status `NoMemory` may come in the place of any other. No other
 /// status and no other reply stands for it.
 ///
-/// Only the host's console and TRANSDB change in the call. `ReadFault` comes only where the count
-/// of faults of `take` rose in this call, `WriteFault` only where that of `say` did, and
-/// `FileFault` only where that of TRANSDB did: the clauses `read_fault`, `write_fault` and
-/// `file_fault`. Of a host that doesn't tell its bytes, as `FolderHost`, these are left, and that
+/// With `play` only the host's console and TRANSDB change in the call; with `create` only TRANSDB and
+/// the files of the databanks. `ReadFault` comes only where the count of faults of `take` rose in
+/// this call, `WriteFault` only where that of `say` did, and `FileFault` only where that of the file
+/// did that it names, with `play` TRANSDB: the clauses `read_fault` and `write_fault`, and `fault` of
+/// `DoesPlay` and `DoesCreate`. Of a host that doesn't tell its bytes, as `FolderHost`, these are left, and that
 /// the end of the input was met where the status is `Done`.
 ///
 /// # What is refused
 ///
-/// With `play`, by what TRANSDB holds as it reads (`opened`): `NoDatabase` exactly where its pair
+/// With `play`, by what TRANSDB holds as it reads (`opens`): `NoDatabase` exactly where its pair
 /// has no open place, `Damaged` exactly where it isn't in order and at that place, `NotHeld`
 /// exactly where its first entry isn't number 1. Then nothing is taken or said, and TRANSDB opens
-/// as before. With `create` (`creation`, `created`): `Exists` exactly where the pair has an open
-/// place already, and then the file is as before; after `Done` every image of TRANSDB is one
-/// without entries. Where the pair has an open place nothing is written, whatever call fails: at
-/// every moment a crash leaves what it might have left before (`leaves`).
+/// as before. With `create` (`found`, `created`): `Exists` exactly where the pair has an open place
+/// already, and then its file is as before; after `Done` every image of TRANSDB is one
+/// without entries, and every image of the files of the databanks, 2, 3 and 4, is one with the mark
+/// 0. TRANSDB comes last, and of it the pair (`order`).
+/// Where the pair has an open place nothing is written, whatever call fails: at every moment a
+/// crash leaves what it might have left before (`leaves`).
 ///
 /// # Where each word is defined
 ///
-/// `PlayOutcome`, in `odb_play/specs/Opening.antt`, says what a run starts from; `IsPlayed`, in
+/// `DoesPlay` and `DoesCreate` stand in `specs`, which words ask for what in
+/// `odb_command/specs/Command.antt`. `PlayOutcome`, in `odb_play/specs/Opening.antt`, says what a run starts from; `IsPlayed`, in
 /// `odb_play/specs/Played.antt`, ties the bytes of the host to `PlayEnds`; `SurvivesCrashes` and
 /// `LosesNoCommit`, in `odb_play/specs/Crash.antt`, say what a crash leaves, by what a machine asks
 /// of an image: `IsKept`, in `odb_system/specs/Kept.antt`. What the bytes of TRANSDB hold stands in
-/// `odb_transdb/specs/Opened.antt`. The others stand in `odb_model/specs`: `PlayEnds`, a case for
-/// each status, in `Play.antt`; the lines of a script and what a line asks in `Script.antt`; the
-/// machine and its steps in `Machine.antt`; what a statement means in `Meaning.antt`; conflict in
-/// `Transaction.antt`; serial in `Serial.antt`; the bytes of replies in `Print.antt`.
+/// `odb_transdb/specs/Opened.antt`, and what those of a databank file stand for in
+/// `odb_bank/specs/Files.antt`. In `odb_machine/specs` stand `PlayEnds`, a case for each status, in
+/// `Play.antt`, and the machine and its steps in `Machine.antt`; in `odb_model/specs` the lines of a
+/// script and what a line asks in `Script.antt`; what a statement means in `Meaning.antt`; conflict
+/// in `Transaction.antt`; serial in `Serial.antt`; the bytes of replies in `Print.antt`.
 ///
 /// # Cost
 ///
@@ -128,47 +130,51 @@ use std::alloc::Global;
 /// definition. The history isn't held: of its entries there are those that were committed in this
 /// call and are within 262,144 writes of its end.
 pub fn run<H: Host>(alloc: Global, words: &[String], host: &mut H) -> Status
-    ensures usage { ¬ (IsCommand (map string_bytes words.now)) → result ≡ Status.Usage }
-    ensures usage_only { result ≡ Status.Usage → ¬ (IsCommand (map string_bytes words.now)) }
-    ensures refused { result ≡ Status.Usage → H.world host.new ≡ H.world host.old }
-
-    ensures played { IsPlay (map string_bytes words.now)
-        → PlayOutcome result (H.world host.old) (H.world host.new) }
-    ensures opened { IsPlay (map string_bytes words.now)
-        → IfSome (file_of 0 (H.world host.old)) (λ f. IsOpeningOf result (opened f.bytes)) }
-
-    ensures created { IsCreate (map string_bytes words.now)
-        → CreateOutcome result (H.world host.old) (H.world host.new) }
-    ensures statuses { IsCreate (map string_bytes words.now) → IsCreateStatus result }
-    ensures creation { IsCreate (map string_bytes words.now)
-        → IfSome (file_of 0 (H.world host.old)) (λ f. IsCreationOf result (pair_opened f.bytes)) }
-    ensures leaves { IsCreate (map string_bytes words.now)
-        → LeavesDatabase (H.world host.old) (H.world host.new) }
-    ensures silent { IsCreate (map string_bytes words.now)
-        → Runs 0 (λ _. Unit {0}) (H.world host.old) (H.world host.new) }
-
-    ensures file_fault { (file : ℕ) → result ≡ Status.FileFault file
-        → (file ≡ 0) × FileCountRose 0 (H.world host.old) (H.world host.new) }
+    ensures usage { ¬ (IsBuilt (map string_bytes words.now))
+        → (result ≡ Status.Usage) ⊎ (result ≡ Status.NoMemory) }
+    ensures usage_only { result ≡ Status.Usage → ¬ (IsBuilt (map string_bytes words.now)) }
+    ensures refused { ¬ (IsBuilt (map string_bytes words.now))
+        → H.world host.new ≡ H.world host.old }
+    ensures play { IsPlay (map string_bytes words.now)
+        → DoesPlay result (H.world host.old) (H.world host.new) }
+    ensures create { (side_kib : ℕ) → IsCreate (map string_bytes words.now) side_kib
+        → DoesCreate side_kib result (H.world host.old) (H.world host.new) }
     ensures read_fault { result ≡ Status.ReadFault
         → TakeCountRose (H.world host.old) (H.world host.new) }
     ensures write_fault { result ≡ Status.WriteFault
         → SayCountRose (H.world host.old) (H.world host.new) }
 {
-    if is_alone(words, "play") {
-        return play(alloc, host);
+    match command_of(alloc, words) {
+        Ok(command) => run_command(alloc, &command, host),
+        Err(CommandError::Usage) => Status::Usage,
+        Err(CommandError::NoMemory) => Status::NoMemory,
     }
-    if is_alone(words, "create") {
-        return create(host);
-    }
-    Status::Usage
 }
 
-/// Whether the words are this one alone.
-fn is_alone(words: &[String], wanted: &str) -> bool
-    ensures { IsTrue result ↔ (map string_bytes words.now ≡ wanted.now ∷ []) }
+/// Does what a command asks for, where it is built.
+fn run_command<H: Host>(alloc: Global, command: &Command, host: &mut H) -> Status
+    requires side { HasSide command.now }
+    ensures unbuilt { is_built command.now ≡ false
+        → (result ≡ Status.Usage) × (H.world host.new ≡ H.world host.old) }
+    ensures built { result ≡ Status.Usage → is_built command.now ≡ false }
+    ensures play { command.now ≡ Command.Play []
+        → DoesPlay result (H.world host.old) (H.world host.new) }
+    ensures create { (side_kib : ℕ) → command.now ≡ Command.Create side_kib
+        → DoesCreate side_kib result (H.world host.old) (H.world host.new) }
+    ensures read_fault { result ≡ Status.ReadFault
+        → TakeCountRose (H.world host.old) (H.world host.new) }
+    ensures write_fault { result ≡ Status.WriteFault
+        → SayCountRose (H.world host.old) (H.world host.new) }
 {
-    match words {
-        [word] => word.as_str() == wanted,
-        _ => false,
+    match command {
+        Command::Create { side_kib } => create(host, *side_kib),
+        Command::Play { choices } => {
+            if choices.is_empty() {
+                play(alloc, host)
+            } else {
+                Status::Usage
+            }
+        }
+        Command::Check { .. } | Command::Generate { .. } => Status::Usage,
     }
 }

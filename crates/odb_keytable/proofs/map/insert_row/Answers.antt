@@ -5,14 +5,14 @@ use Rattle.odb_keytable.specs.Table.{AreRows}
 use Rattle.odb_keytable.proofs.RowPlaces.{state_of-updated, AreRows-insert}
 use Rattle.odb_keytable.proofs.map.insert_row.Goals as goal
 
-pub returns-clause-ok : goal.returns-clause-ok
-returns-clause-ok c =
+pub returns-in-Ok-clause-ok : goal.returns-in-Ok-clause-ok
+returns-in-Ok-clause-ok c =
     let es : List (Spot × List Value) = c.args.rows.now.entries in
     let rows : AreRows c.insert.new.self.entries =
-    subst (λ (fs : List (Spot × List Value)). AreRows fs) (sym c.in_ok-_replaced.ensures.entries) (AreRows-insert es c.args.spot c.args.row c.requires.place c.requires.rows) in
-    state_of-updated es c.insert.new.self.entries c.args.spot (Some c.args.row) c.requires.place c.requires.rows rows c.in_ok-_replaced.ensures.updates.0
+    subst (λ (fs : List (Spot × List Value)). AreRows fs) (sym c.in-Ok.ensures.entries) (AreRows-insert es c.args.spot c.args.row c.requires.place c.requires.rows) in
+    state_of-updated es c.insert.new.self.entries c.args.spot (Some c.args.row) c.requires.place c.requires.rows rows c.in-Ok.ensures.updates.0
 
-pub returns-clause-rows : goal.returns-clause-rows
-returns-clause-rows c =
-    subst (λ (fs : List (Spot × List Value)). AreRows fs) (sym c.in_ok-_replaced.ensures.entries)
+pub returns-in-Ok-clause-rows : goal.returns-in-Ok-clause-rows
+returns-in-Ok-clause-rows c =
+    subst (λ (fs : List (Spot × List Value)). AreRows fs) (sym c.in-Ok.ensures.entries)
     (AreRows-insert c.args.rows.now.entries c.args.spot c.args.row c.requires.place c.requires.rows)
